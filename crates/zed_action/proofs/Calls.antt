@@ -58,7 +58,8 @@ to_do_is None es f e h = go (can (replay es) f) h
 pub author_is : (d : Replica) (replica : ℕ) (o : Op) (e : Edit) → AnswersAuthor d replica o (Ok e) → e ≡ authored d.edits replica o
 author_is d replica o e h = go d.is_stale (is_spent_for d.edits o) h
   where
-    go : (b s : Bool) → MatchBool b (Ok e ≡ Err document.Stale) (MatchBool s (Ok e ≡ Err document.ClockSpent) (AnswersToDo (fault (authored d.edits replica o)) d.edits (authored d.edits replica o) (Ok e)))
+    go : (b s : Bool)
+        → MatchBool b (Ok e ≡ Err document.Stale) (MatchBool s (Ok e ≡ Err document.ClockSpent) (AnswersToDo (fault (authored d.edits replica o)) d.edits (authored d.edits replica o) (Ok e)))
         → e ≡ authored d.edits replica o
     go true s h = not_refused e _ h
     go false true h = not_refused e _ h
@@ -111,8 +112,10 @@ abbrev HasDeletions : Replica → ℕ → TextId → ℕ → ℕ → Deletion �
 HasDeletions d replica t from to r = IsOkAnd r (λ v. v.items ≡ deletions_of d.edits replica t from to)
 
 -- bytes were deleted
-pub deleted : (d : Replica) (replica : ℕ) (t : TextId) (from to : ℕ) (v : Vec Edit) (new : List Edit) → new ≡ d.edits ++ deletions_of d.edits replica t from to
-    → AnswersDeletion d t from to (λ r. IsOkAnd r (λ v. v.items ≡ deletions_of d.edits replica t from to)) (Ok v) → Deletes d replica t from to (Ok new)
+pub deleted : (d : Replica) (replica : ℕ) (t : TextId) (from to : ℕ) (v : Vec Edit) (new : List Edit)
+    → new ≡ d.edits ++ deletions_of d.edits replica t from to
+    → AnswersDeletion d t from to (λ r. IsOkAnd r (λ v. v.items ≡ deletions_of d.edits replica t from to)) (Ok v)
+    → Deletes d replica t from to (Ok new)
 deleted d replica t from to v new made h = (
   Ok (deletions_of d.edits replica t from to),
   deletion_told d t from to (HasDeletions d replica t from to) (λ a. a ≡ Ok (deletions_of d.edits replica t from to)) (Ok v) (Ok (deletions_of d.edits replica t from to)) (λ _. refl) (λ e same. let bad : Ok v ≡ deletion_refused e = same in cc) h,
@@ -124,7 +127,8 @@ err_only e f same = cc
 
 -- or not
 pub not_deleted : (d : Replica) (replica : ℕ) (t : TextId) (from to : ℕ) (e : DocumentError) (result : ActionError) → result ≡ refusal_of e
-    → (deletion_refused e ≡ Err document.Memory) ⊎ AnswersDeletion d t from to (λ r. IsOkAnd r (λ v. v.items ≡ deletions_of d.edits replica t from to)) (deletion_refused e)
+    → (deletion_refused e ≡ Err document.Memory)
+    ⊎ AnswersDeletion d t from to (λ r. IsOkAnd r (λ v. v.items ≡ deletions_of d.edits replica t from to)) (deletion_refused e)
     → (result ≡ memory) ⊎ Deletes d replica t from to (Err result)
 not_deleted d replica t from to e result is why =
     elim why [
@@ -143,13 +147,15 @@ seen w es b c = record { world = w; edits = es; is_stale = b; counts = c }
 inserts_same : (d o : Replica) (replica : ℕ) (t : TextId) (p : ℕ) (bytes : List ℕ) (made : Result (List Edit) ActionError)
     → d.edits ≡ o.edits → d.is_stale ≡ o.is_stale → Inserts d replica t p bytes made → Inserts o replica t p bytes made
 inserts_same d o replica t p bytes made edits stale h =
-    let first : Inserts (seen o.world d.edits o.is_stale o.counts) replica t p bytes made = subst (λ b. Inserts (seen o.world d.edits b o.counts) replica t p bytes made) stale h in
+    let first : Inserts (seen o.world d.edits o.is_stale o.counts) replica t p bytes made =
+    subst (λ b. Inserts (seen o.world d.edits b o.counts) replica t p bytes made) stale h in
     subst (λ es. Inserts (seen o.world es o.is_stale o.counts) replica t p bytes made) edits first
 
 authors_same : (d o : Replica) (replica : ℕ) (op : Op) (made : Result (List Edit) ActionError)
     → d.edits ≡ o.edits → d.is_stale ≡ o.is_stale → Authors d replica op made → Authors o replica op made
 authors_same d o replica op made edits stale h =
-    let first : Authors (seen o.world d.edits o.is_stale o.counts) replica op made = subst (λ b. Authors (seen o.world d.edits b o.counts) replica op made) stale h in
+    let first : Authors (seen o.world d.edits o.is_stale o.counts) replica op made =
+    subst (λ b. Authors (seen o.world d.edits b o.counts) replica op made) stale h in
     subst (λ es. Authors (seen o.world es o.is_stale o.counts) replica op made) edits first
 
 -- the second of three edits was refused
@@ -182,11 +188,13 @@ pub third_done : (d d1 d2 : Replica) (replica : ℕ) (s : StatId) (t : TextId) (
     → Authors d replica op.TextAdd (Ok d1.edits) → d1.is_stale ≡ d.is_stale → t ≡ next_text d replica
     → Inserts d1 replica t 0 bytes (Ok d2.edits) → d2.is_stale ≡ d.is_stale
     → Authors d2 replica (op.SetStat s (stat_setting.Text (Some t))) (Ok new) → Starts d replica s bytes (Ok new)
-third_done d d1 d2 replica s t bytes new first stale is second stale2 third = third_told d d1 d2 replica s t bytes (Ok new) first stale is second stale2 third
+third_done d d1 d2 replica s t bytes new first stale is second stale2 third =
+    third_told d d1 d2 replica s t bytes (Ok new) first stale is second stale2 third
 
 pub third_refused : (d d1 d2 : Replica) (replica : ℕ) (s : StatId) (t : TextId) (bytes : List ℕ) (e : ActionError)
     → Authors d replica op.TextAdd (Ok d1.edits) → d1.is_stale ≡ d.is_stale → t ≡ next_text d replica
     → Inserts d1 replica t 0 bytes (Ok d2.edits) → d2.is_stale ≡ d.is_stale
-    → (e ≡ memory) ⊎ Authors d2 replica (op.SetStat s (stat_setting.Text (Some t))) (Err e) → (e ≡ memory) ⊎ Starts d replica s bytes (Err e)
+    → (e ≡ memory) ⊎ Authors d2 replica (op.SetStat s (stat_setting.Text (Some t))) (Err e)
+    → (e ≡ memory) ⊎ Starts d replica s bytes (Err e)
 third_refused d d1 d2 replica s t bytes e first stale is second stale2 why =
     elim why [ inl why ↦ inl why | inr third ↦ inr (third_told d d1 d2 replica s t bytes (Err e) first stale is second stale2 third) ]

@@ -90,12 +90,14 @@ deed_calm p (action.Rank b rank) = then_calm (board_in p b) _ (board_calm p b) (
 deed_calm p (action.Cells b cells tile) = then_calm (board_in p b) _ (board_calm p b) (λ board. done_calm _)
 deed_calm p (action.StatAdd b x y cycle) = then_calm (board_in p b) _ (board_calm p b) (λ board. done_calm _)
 deed_calm p (action.StatRemove b s) = then_calm (stat_in p b s) _ (stat_calm p b s) (λ it. done_calm _)
-deed_calm p (action.Insert b s position bytes) = then_calm (stat_in p b s) _ (stat_calm p b s) (λ it. insertion_calm it (text_of p it) position bytes)
+deed_calm p (action.Insert b s position bytes) =
+    then_calm (stat_in p b s) _ (stat_calm p b s) (λ it. insertion_calm it (text_of p it) position bytes)
 deed_calm p (action.Delete b s from to) = then_calm (stat_in p b s) _ (stat_calm p b s) (λ it. deletion_calm (text_of p it) from to)
 
 -- words that can't be read for want of memory keep bytes
 pub parse_wants : (d : Replica) (replica : ℕ) (words : List Word) (e : ActionError)
-    → e ≡ memory → ((e ≡ memory) × KeepsBytes (action_of words)) ⊎ ((e ≡ BadAction) × (action_of words ≡ None)) → WordsMayTake d replica words
+    → e ≡ memory → ((e ≡ memory) × KeepsBytes (action_of words)) ⊎ ((e ≡ BadAction) × (action_of words ≡ None))
+    → WordsMayTake d replica words
 parse_wants d replica words e lack why =
     elim why [
       | inl keeps ↦ inl keeps.1

@@ -74,7 +74,8 @@ greatest-one k (w ∷ ws) =
     (greatest-one (later k w) ws)
 
 -- and none of them is later
-greatest-above : {V : Type 0} (k : Written V) (ws : List (Written V)) (s : Stamp) → before k.stamp s ≡ false → before (greatest k ws).stamp s ≡ false
+greatest-above : {V : Type 0} (k : Written V) (ws : List (Written V)) (s : Stamp) → before k.stamp s ≡ false
+    → before (greatest k ws).stamp s ≡ false
 greatest-above k [] s h = h
 greatest-above k (w ∷ ws) s h = greatest-above (later k w) ws s (later-above k w s h)
 
@@ -98,7 +99,8 @@ of_one P (y ∷ xs) x all (suc k, l, e) = of_one P xs x all.1 (k, omega arith, e
 none_in_empty : {X : Type 0} (x : X) → Contains [] x → ⊥
 none_in_empty x (k, l, e) = omega arith
 
-pub order_is_forgotten : {V : Type 0} (ws vs : List (Written V)) → StampsAgree ws → HasAll ws vs → HasAll vs ws → latest_of None ws ≡ latest_of None vs
+pub order_is_forgotten : {V : Type 0} (ws vs : List (Written V)) → StampsAgree ws → HasAll ws vs → HasAll vs ws
+    → latest_of None ws ≡ latest_of None vs
 order_is_forgotten [] [] agree a b = refl
 order_is_forgotten [] (v ∷ vs) agree a b = absurd (none_in_empty v a.0)
 order_is_forgotten (w ∷ ws) [] agree a b = absurd (none_in_empty w b.0)
@@ -116,7 +118,8 @@ order_is_forgotten (w ∷ ws) (v ∷ vs) agree a b =
 
 -- a cell after one rectangle
 kept_at : (test : ℕ → Bool) (w : Written Tile) (i j n : ℕ) (cells : List (Written Tile)) → j ≡ n + i → i < length cells
-    → slice_get (map_from (λ k kept. cond (test k) (later kept w) kept) n cells) i ≡ cond (test j) (keep_later (slice_get cells i) w) (slice_get cells i)
+    → slice_get (map_from (λ k kept. cond (test k) (later kept w) kept) n cells) i
+    ≡ cond (test j) (keep_later (slice_get cells i) w) (slice_get cells i)
 kept_at test w i j n [] e l = absurd (omega arith)
 kept_at test w zero j n (x ∷ cells) e l =
     let same : j ≡ n = omega arith in
@@ -128,7 +131,8 @@ kept_at test w zero j n (x ∷ cells) e l =
 kept_at test w (suc i) j n (x ∷ cells) e l = kept_at test w i j (n + 1) cells (omega arith) (omega arith)
 
 reached : (b : Bool) (w : Written Tile) (o : Option (Written Tile)) (ws : List (Written Tile)) (i : ℕ) (ds : List (Rectangle × Written Tile)) (r : Rectangle)
-    → latest_of (cond b (keep_later o w) o) (writes_into i ds) ≡ latest_of o (map (λ d. d.1) (cond b ((r, w) ∷ filter (λ d. is_inside d.0 (place_at i)) ds) (filter (λ d. is_inside d.0 (place_at i)) ds)))
+    → latest_of (cond b (keep_later o w) o) (writes_into i ds)
+    ≡ latest_of o (map (λ d. d.1) (cond b ((r, w) ∷ filter (λ d. is_inside d.0 (place_at i)) ds) (filter (λ d. is_inside d.0 (place_at i)) ds)))
 reached true w o ws i ds r = refl
 reached false w o ws i ds r = refl
 

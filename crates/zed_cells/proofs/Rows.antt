@@ -24,17 +24,21 @@ pub row-none : (from : ℕ) (w : Written Tile) (cells : List (Written Tile)) →
 row-none from w cells = keep_where-none (between from from) w cells (λ k m. between-none from k)
 
 -- one cell more of a row
-pub row-more : (from i : ℕ) (w : Written Tile) (cells : List (Written Tile)) → from ≤ i → keep_where (λ k. eqb k i) w (keep_where (between from i) w cells) ≡ keep_where (between from (i + 1)) w cells
+pub row-more : (from i : ℕ) (w : Written Tile) (cells : List (Written Tile)) → from ≤ i
+    → keep_where (λ k. eqb k i) w (keep_where (between from i) w cells) ≡ keep_where (between from (i + 1)) w cells
 row-more from i w cells h = keep_where-twice (λ k. eqb k i) (between from i) (between from (i + 1)) w cells (λ k m. between-more from i k h)
 
-inside-step : (left right top bottom from to k : ℕ) → 1 ≤ left → left ≤ right → right ≤ 60 → top ≤ bottom + 1 → from ≡ bottom * 60 + (left - 1) → to ≡ bottom * 60 + right
+inside-step : (left right top bottom from to k : ℕ) → 1 ≤ left → left ≤ right → right ≤ 60 → top ≤ bottom + 1
+    → from ≡ bottom * 60 + (left - 1) → to ≡ bottom * 60 + right
     → inside left right top (bottom + 1) k ≡ (between from to k || inside left right top bottom k)
 inside-step left right top bottom from to k a b c d f t = go (nat_lt k from) refl (nat_lt k to) refl
   where
-    outside : between from to k ≡ false → inside left right top (bottom + 1) k ≡ inside left right top bottom k → inside left right top (bottom + 1) k ≡ (between from to k || inside left right top bottom k)
+    outside : between from to k ≡ false → inside left right top (bottom + 1) k ≡ inside left right top bottom k
+        → inside left right top (bottom + 1) k ≡ (between from to k || inside left right top bottom k)
     outside u v = rw u v
 
-    go : (x : Bool) → nat_lt k from ≡ x → (y : Bool) → nat_lt k to ≡ y → inside left right top (bottom + 1) k ≡ (between from to k || inside left right top bottom k)
+    go : (x : Bool) → nat_lt k from ≡ x → (y : Bool) → nat_lt k to ≡ y
+        → inside left right top (bottom + 1) k ≡ (between from to k || inside left right top bottom k)
     go true x y y' =
         let l = ltb-true k from x in
         outside (grind (arith, nat_tests)) (inside-before left right top bottom k a b c (omega arith))
@@ -48,8 +52,10 @@ inside-step left right top bottom from to k a b c d f t = go (nat_lt k from) ref
         rw u (inside-row left right top bottom k a b c d (omega arith) (omega arith))
 
 -- before the first row nothing is set
-pub set_cells-none : (r : Rectangle) (row : ℕ) (w : Written Tile) (cells : List (Written Tile)) → row + 1 ≤ r.top → cells ≡ set_cells (record r { bottom = row }) w cells
-set_cells-none r row w cells top = keep_where-none (inside r.left r.right r.top row) w cells (λ k m. inside-none r.left r.right r.top row k top)
+pub set_cells-none : (r : Rectangle) (row : ℕ) (w : Written Tile) (cells : List (Written Tile)) → row + 1 ≤ r.top
+    → cells ≡ set_cells (record r { bottom = row }) w cells
+set_cells-none r row w cells top =
+    keep_where-none (inside r.left r.right r.top row) w cells (λ k m. inside-none r.left r.right r.top row k top)
 
 -- one row more
 pub set_cells-more : (r : Rectangle) (row from to : ℕ) (w : Written Tile) (cells : List (Written Tile))

@@ -15,7 +15,8 @@ use Rattle.zed_code.specs.Kept.{IsRun, total}
 use Rattle.zed_code.specs.Text.{alive_names}
 use Rattle.zed_code.proofs.Spelling.{bytes-count}
 
-pub alive-run : (s : Stamp) (n : ℕ) (bs : List ℕ) (rest : List TextByte) → alive (run_of s true n bs ++ rest) ≡ run_of s true n bs ++ alive rest
+pub alive-run : (s : Stamp) (n : ℕ) (bs : List ℕ) (rest : List TextByte)
+    → alive (run_of s true n bs ++ rest) ≡ run_of s true n bs ++ alive rest
 alive-run s n [] rest = refl
 alive-run s n (b ∷ bs) rest = ap (λ xs. record { id = byte_of s n; byte = b; alive = true } ∷ xs) (alive-run s (n + 1) bs rest)
 
@@ -31,7 +32,8 @@ pub live-length : (store : List ℕ) (rs : List Run) → AllByRecursion (IsRun s
 live-length store [] h = refl
 live-length store (r ∷ rs) h = go r.alive refl (live-length store rs h.1)
   where
-    go : (b : Bool) → r.alive ≡ b → length (alive (spelled store rs)) ≡ live rs → length (alive (spelled store (r ∷ rs))) ≡ cond r.alive (r.len + live rs) (live rs)
+    go : (b : Bool) → r.alive ≡ b → length (alive (spelled store rs)) ≡ live rs
+        → length (alive (spelled store (r ∷ rs))) ≡ cond r.alive (r.len + live rs) (live rs)
     go true e more =
         let n = bytes-count store r h.0 in
         rw e (ap length (alive-run r.stamp r.first (bytes_in store r) (spelled store rs)) ∙ omega (arith, length-append (run_of r.stamp true r.first (bytes_in store r)) (alive (spelled store rs)), length-run r.stamp true r.first (bytes_in store r), n, more))
@@ -41,12 +43,14 @@ pub live-bytes : (store : List ℕ) (rs : List Run) → AllByRecursion (IsRun st
 live-bytes store rs h = length-map (alive (spelled store rs)) (λ x. x.byte) ∙ live-length store rs h
 
 -- the k-th of a row
-name-in : (s : Stamp) (n : ℕ) (bs : List ℕ) (xs : List ElemId) (k : ℕ) → k < length bs → slice_get (map (λ x. x.id) (run_of s true n bs) ++ xs) k ≡ Some (byte_of s (n + k))
+name-in : (s : Stamp) (n : ℕ) (bs : List ℕ) (xs : List ElemId) (k : ℕ) → k < length bs
+    → slice_get (map (λ x. x.id) (run_of s true n bs) ++ xs) k ≡ Some (byte_of s (n + k))
 name-in s n [] xs k l = absurd (omega (arith, l))
 name-in s n (b ∷ bs) xs zero l = let e : n + 0 ≡ n = omega arith in rw e refl
 name-in s n (b ∷ bs) xs (suc k) l = let e : n + suc k ≡ n + 1 + k = omega arith in rw e (name-in s (n + 1) bs xs k (omega (arith, l)))
 
-byte-in : (s : Stamp) (n : ℕ) (bs xs : List ℕ) (k : ℕ) → k < length bs → slice_get (map (λ x. x.byte) (run_of s true n bs) ++ xs) k ≡ slice_get bs k
+byte-in : (s : Stamp) (n : ℕ) (bs xs : List ℕ) (k : ℕ) → k < length bs
+    → slice_get (map (λ x. x.byte) (run_of s true n bs) ++ xs) k ≡ slice_get bs k
 byte-in s n [] xs k l = absurd (omega (arith, l))
 byte-in s n (b ∷ bs) xs zero l = refl
 byte-in s n (b ∷ bs) xs (suc k) l = byte-in s (n + 1) bs xs k (omega (arith, l))
@@ -65,18 +69,27 @@ module _ (X : Type 0) (f : TextByte → X) (of : Run → ℕ → Option X) (stor
   read_at None = None
   read_at (Some p) = of p.0 p.1
 
-  pub alive-at : (rs : List Run) → AllByRecursion (IsRun store) rs → (k : ℕ) → slice_get (map f (alive (spelled store rs))) k ≡ read_at (live_at rs k)
+  pub alive-at : (rs : List Run) → AllByRecursion (IsRun store) rs → (k : ℕ)
+      → slice_get (map f (alive (spelled store rs))) k ≡ read_at (live_at rs k)
   alive-at [] h k = refl
   alive-at (r ∷ rs) h k = go r.alive refl (alive-at rs h.1)
     where
       n : length (map f (run_of r.stamp true r.first (bytes_in store r))) ≡ r.len
-      n = length-map (run_of r.stamp true r.first (bytes_in store r)) f ∙ length-run r.stamp true r.first (bytes_in store r) ∙ bytes-count store r h.0
+      n =
+          length-map (run_of r.stamp true r.first (bytes_in store r)) f ∙ length-run r.stamp true r.first (bytes_in store r)
+          ∙ bytes-count store r h.0
 
-      within : (b : Bool) → ltb k r.len ≡ b → ((j : ℕ) → slice_get (map f (alive (spelled store rs))) j ≡ read_at (live_at rs j)) → slice_get (map f (run_of r.stamp true r.first (bytes_in store r)) ++ map f (alive (spelled store rs))) k ≡ read_at (cond b (Some (r, k)) (live_at rs (k - r.len)))
+      within : (b : Bool) → ltb k r.len ≡ b → ((j : ℕ) → slice_get (map f (alive (spelled store rs))) j ≡ read_at (live_at rs j))
+          → slice_get (map f (run_of r.stamp true r.first (bytes_in store r)) ++ map f (alive (spelled store rs))) k
+          ≡ read_at (cond b (Some (r, k)) (live_at rs (k - r.len)))
       within true e more = there r h.0 (map f (alive (spelled store rs))) k (grind (arith))
-      within false e more = get-behind (map f (run_of r.stamp true r.first (bytes_in store r))) (map f (alive (spelled store rs))) r.len k n (grind (arith)) ∙ more (k - r.len)
+      within false e more =
+          get-behind (map f (run_of r.stamp true r.first (bytes_in store r))) (map f (alive (spelled store rs))) r.len k n (grind (arith))
+          ∙ more (k - r.len)
 
-      go : (b : Bool) → r.alive ≡ b → ((j : ℕ) → slice_get (map f (alive (spelled store rs))) j ≡ read_at (live_at rs j)) → slice_get (map f (alive (spelled store (r ∷ rs)))) k ≡ read_at (cond r.alive (cond (ltb k r.len) (Some (r, k)) (live_at rs (k - r.len))) (live_at rs k))
+      go : (b : Bool) → r.alive ≡ b → ((j : ℕ) → slice_get (map f (alive (spelled store rs))) j ≡ read_at (live_at rs j))
+          → slice_get (map f (alive (spelled store (r ∷ rs)))) k
+          ≡ read_at (cond r.alive (cond (ltb k r.len) (Some (r, k)) (live_at rs (k - r.len))) (live_at rs k))
       go true e more =
           ap (λ b. slice_get (map f (alive (run_of r.stamp b r.first (bytes_in store r) ++ spelled store rs))) k) e
           ∙ ap (λ xs. slice_get (map f xs) k) (alive-run r.stamp r.first (bytes_in store r) (spelled store rs)) ∙ ap (λ xs. slice_get xs k) (map-append f (run_of r.stamp true r.first (bytes_in store r)) (alive (spelled store rs))) ∙ within (ltb k r.len) refl more
@@ -94,10 +107,13 @@ abbrev pub name_at : Option (Run × ℕ) → Option ElemId
 name_at None = None
 name_at (Some p) = name_of p.0 p.1
 
-pub name-is : (store : List ℕ) (rs : List Run) → AllByRecursion (IsRun store) rs → (k : ℕ) → slice_get (alive_names (spelled store rs)) k ≡ name_at (live_at rs k)
+pub name-is : (store : List ℕ) (rs : List Run) → AllByRecursion (IsRun store) rs → (k : ℕ)
+    → slice_get (alive_names (spelled store rs)) k ≡ name_at (live_at rs k)
 name-is store rs h k = alive-at ElemId (λ x. x.id) name_of store (λ r is xs j l. name-in r.stamp r.first (bytes_in store r) xs j (rw (bytes-count store r is) l)) rs h k ∙ same (live_at rs k)
   where
-    same : (o : Option (Run × ℕ)) → read_at ElemId (λ x. x.id) name_of store (λ r is xs j l. name-in r.stamp r.first (bytes_in store r) xs j (rw (bytes-count store r is) l)) o ≡ name_at o
+    same : (o : Option (Run × ℕ))
+        → read_at ElemId (λ x. x.id) name_of store (λ r is xs j l. name-in r.stamp r.first (bytes_in store r) xs j (rw (bytes-count store r is) l)) o
+        ≡ name_at o
     same None = refl
     same (Some p) = refl
 
@@ -109,10 +125,13 @@ abbrev pub value_at : List ℕ → Option (Run × ℕ) → Option ℕ
 value_at store None = None
 value_at store (Some p) = value_of store p.0 p.1
 
-pub byte-is : (store : List ℕ) (rs : List Run) → AllByRecursion (IsRun store) rs → (k : ℕ) → slice_get (alive_bytes (spelled store rs)) k ≡ value_at store (live_at rs k)
+pub byte-is : (store : List ℕ) (rs : List Run) → AllByRecursion (IsRun store) rs → (k : ℕ)
+    → slice_get (alive_bytes (spelled store rs)) k ≡ value_at store (live_at rs k)
 byte-is store rs h k = alive-at ℕ (λ x. x.byte) (value_of store) store (λ r is xs j l. byte-in r.stamp r.first (bytes_in store r) xs j (rw (bytes-count store r is) l)) rs h k ∙ same (live_at rs k)
   where
-    same : (o : Option (Run × ℕ)) → read_at ℕ (λ x. x.byte) (value_of store) store (λ r is xs j l. byte-in r.stamp r.first (bytes_in store r) xs j (rw (bytes-count store r is) l)) o ≡ value_at store o
+    same : (o : Option (Run × ℕ))
+        → read_at ℕ (λ x. x.byte) (value_of store) store (λ r is xs j l. byte-in r.stamp r.first (bytes_in store r) xs j (rw (bytes-count store r is) l)) o
+        ≡ value_at store o
     same None = refl
     same (Some p) = refl
 
@@ -121,11 +140,14 @@ pair_or d None = d
 pair_or d (Some p) = p
 
 -- the place that is told is one
-pub live_at-is : (P : Run → Type 0) (rs : List Run) (k : ℕ) (r : Run) (i : ℕ) → AllByRecursion P rs → live_at rs k ≡ Some (r, i) → P r × (i < r.len)
+pub live_at-is : (P : Run → Type 0) (rs : List Run) (k : ℕ) (r : Run) (i : ℕ) → AllByRecursion P rs → live_at rs k ≡ Some (r, i)
+    → P r × (i < r.len)
 live_at-is P [] k r i h e = absurd (cc)
 live_at-is P (q ∷ rs) k r i h e = go q.alive (ltb k q.len) refl (λ j f. live_at-is P rs j r i h.1 f) e
   where
-    go : (a b : Bool) → ltb k q.len ≡ b → ((j : ℕ) → live_at rs j ≡ Some (r, i) → P r × (i < r.len)) → cond a (cond b (Some (q, k)) (live_at rs (k - q.len))) (live_at rs k) ≡ Some (r, i) → P r × (i < r.len)
+    go : (a b : Bool) → ltb k q.len ≡ b → ((j : ℕ) → live_at rs j ≡ Some (r, i) → P r × (i < r.len))
+        → cond a (cond b (Some (q, k)) (live_at rs (k - q.len))) (live_at rs k) ≡ Some (r, i)
+        → P r × (i < r.len)
     go false b c more e = more k e
     go true false c more e = more (k - q.len) e
     go true true c more e =
@@ -149,13 +171,15 @@ some-at [] i d l = absurd (omega (arith, l))
 some-at (x ∷ xs) zero d l = refl
 some-at (x ∷ xs) (suc i) d l = some-at xs i d (omega (arith, l))
 
-pub byte-there : (store : List ℕ) (r : Run) (i d : ℕ) → IsRun store r → i < r.len → d ≡ get_or store (r.start + i) d → slice_get (bytes_in store r) i ≡ Some d
+pub byte-there : (store : List ℕ) (r : Run) (i d : ℕ) → IsRun store r → i < r.len → d ≡ get_or store (r.start + i) d
+    → slice_get (bytes_in store r) i ≡ Some d
 byte-there store r i d h l e =
     some-at (bytes_in store r) i d (rw (bytes-count store r h) l)
     ∙ ap Some (get_or-take r.len (drop r.start store) i d l ∙ get_or-drop r.start store i d ∙ sym e)
 
 -- the bytes of the first run, and then of the others
-pub alive-next : (store : List ℕ) (r : Run) (rs : List Run) → r.alive ≡ true → alive_bytes (spelled store (r ∷ rs)) ≡ bytes_in store r ++ alive_bytes (spelled store rs)
+pub alive-next : (store : List ℕ) (r : Run) (rs : List Run) → r.alive ≡ true
+    → alive_bytes (spelled store (r ∷ rs)) ≡ bytes_in store r ++ alive_bytes (spelled store rs)
 alive-next store r rs e =
     ap (λ b. alive_bytes (run_of r.stamp b r.first (bytes_in store r) ++ spelled store rs)) e
     ∙ ap (map (λ x. x.byte)) (alive-run r.stamp r.first (bytes_in store r) (spelled store rs))
@@ -166,7 +190,8 @@ alive-next store r rs e =
     bytes-run s n [] = refl
     bytes-run s n (b ∷ bs) = ap (λ xs. b ∷ xs) (bytes-run s (n + 1) bs)
 
-pub dead-next : (store : List ℕ) (r : Run) (rs : List Run) → r.alive ≡ false → alive_bytes (spelled store (r ∷ rs)) ≡ alive_bytes (spelled store rs)
+pub dead-next : (store : List ℕ) (r : Run) (rs : List Run) → r.alive ≡ false
+    → alive_bytes (spelled store (r ∷ rs)) ≡ alive_bytes (spelled store rs)
 dead-next store r rs e =
     ap (λ b. alive_bytes (run_of r.stamp b r.first (bytes_in store r) ++ spelled store rs)) e
     ∙ ap (map (λ x. x.byte)) (dead-run r.stamp r.first (bytes_in store r) (spelled store rs))

@@ -13,7 +13,9 @@ use Rattle.zed_code.proofs.Joins.{none-sought}
 use Rattle.zed_code.proofs.Kills.{cut_none}
 
 -- the same place of the same blocks, for the same name
-pub place-of : (at : Spot) (id name : ElemId) (bs cs : List Block) → id ≡ name → bs ≡ cs → before_spot at (lists bs) ≡ sought id.name.stamp id.name.index (joined (lists bs)) → before_spot at (lists cs) ≡ sought name.name.stamp name.name.index (joined (lists cs))
+pub place-of : (at : Spot) (id name : ElemId) (bs cs : List Block) → id ≡ name → bs ≡ cs
+    → before_spot at (lists bs) ≡ sought id.name.stamp id.name.index (joined (lists bs))
+    → before_spot at (lists cs) ≡ sought name.name.stamp name.name.index (joined (lists cs))
 place-of at id name bs cs e f h =
     let P : ElemId → Type 0 = λ x. before_spot at (lists bs) ≡ sought x.name.stamp x.name.index (joined (lists bs)) in
     let Q : List Block → Type 0 = λ xs. before_spot at (lists xs) ≡ sought name.name.stamp name.name.index (joined (lists xs)) in
@@ -27,7 +29,8 @@ kills-none x rs n e l =
     sym (cut_none x rs (subst N all (none-sought x.stamp x.first rs)))
 
 -- before the place that was sought nothing dies, wherever its block is moved
-pub none-before : (x : ByteRange) (old new : List Run) (n m : ℕ) → n ≡ sought x.stamp x.first old → m ≡ n → new ≡ old → NoneFrom x.stamp x.first (take m new)
+pub none-before : (x : ByteRange) (old new : List Run) (n m : ℕ) → n ≡ sought x.stamp x.first old → m ≡ n → new ≡ old
+    → NoneFrom x.stamp x.first (take m new)
 none-before x old new n m e f same =
     let P : ℕ → Type 0 = λ k. NoneFrom x.stamp x.first (take k old) in
     let Q : List Run → Type 0 = λ qs. NoneFrom x.stamp x.first (take m qs) in

@@ -19,11 +19,13 @@ same_elem a b h =
     let times : a.name.stamp.time ≡ b.name.stamp.time = grind (arith) in
     let replicas : a.name.stamp.replica ≡ b.name.stamp.replica = grind (arith) in
     let indices : a.name.index ≡ b.name.index = grind (arith) in
-    let path : make a.name.stamp.time a.name.stamp.replica a.name.index ≡ make b.name.stamp.time b.name.stamp.replica b.name.index = rw (times, replicas, indices) refl in
+    let path : make a.name.stamp.time a.name.stamp.replica a.name.index ≡ make b.name.stamp.time b.name.stamp.replica b.name.index =
+    rw (times, replicas, indices) refl in
     path
 
 module _ (k : ElemId) (v : ℕ) (hint : ElemId × ℕ) where
-  later : (e : ElemId × ℕ) (es : List (ElemId × ℕ)) → (IsOne es hint ⊎ ((hint.0 ≡ k) × (hint.1 ≡ v))) → (IsOne (e ∷ es) hint ⊎ ((hint.0 ≡ k) × (hint.1 ≡ v)))
+  later : (e : ElemId × ℕ) (es : List (ElemId × ℕ)) → (IsOne es hint ⊎ ((hint.0 ≡ k) × (hint.1 ≡ v)))
+      → (IsOne (e ∷ es) hint ⊎ ((hint.0 ≡ k) × (hint.1 ≡ v)))
   later e es (inl one) = inl (suc one.0, one.1)
   later e es (inr own) = inr own
 
@@ -35,7 +37,10 @@ module _ (k : ElemId) (v : ℕ) (hint : ElemId × ℕ) where
   adds-one [] (suc i, g) = absurd (cc)
   adds-one (e ∷ es) one = go (elem_cmp k e.0) refl one (adds-one es)
     where
-      go : (o : Ordering) → elem_cmp k e.0 ≡ o → IsOne (match_ordering o ((k, v) ∷ e ∷ es) ((e.0, v) ∷ es) (e ∷ insert_entry elem_cmp es k v)) hint → (IsOne (insert_entry elem_cmp es k v) hint → IsOne es hint ⊎ ((hint.0 ≡ k) × (hint.1 ≡ v))) → IsOne (e ∷ es) hint ⊎ ((hint.0 ≡ k) × (hint.1 ≡ v))
+      go : (o : Ordering) → elem_cmp k e.0 ≡ o
+          → IsOne (match_ordering o ((k, v) ∷ e ∷ es) ((e.0, v) ∷ es) (e ∷ insert_entry elem_cmp es k v)) hint
+          → (IsOne (insert_entry elem_cmp es k v) hint → IsOne es hint ⊎ ((hint.0 ≡ k) × (hint.1 ≡ v)))
+          → IsOne (e ∷ es) hint ⊎ ((hint.0 ≡ k) × (hint.1 ≡ v))
       go Less h (zero, g) more = let f = some-is (k, v) g in inr (ap (λ p. p.0) (sym f), ap (λ p. p.1) (sym f))
       go Less h (suc i, g) more = inl (i, g)
       go Equal h (zero, g) more = let f = some-is (e.0, v) g in inr (ap (λ p. p.0) (sym f) ∙ sym (same_elem k e.0 h), ap (λ p. p.1) (sym f))

@@ -28,7 +28,8 @@ none-lasts : (s : Stamp) (n : ℕ) (r : Run) → same_stamp r.stamp s ≡ false 
 none-lasts s n r e = ap (λ b. b && ltb n (r.first + r.len)) e
 
 -- a run that is put in stands behind the front of the run that it cuts, and is the first of its insertion
-sought-own : (m i n : ℕ) (run : Run) (rs : List Run) → NoneOf run.stamp rs → lasts run.stamp m run ≡ true → i + min n 1 ≤ length rs → sought run.stamp m (put_in i n run rs) ≡ i + min n 1
+sought-own : (m i n : ℕ) (run : Run) (rs : List Run) → NoneOf run.stamp rs → lasts run.stamp m run ≡ true → i + min n 1 ≤ length rs
+    → sought run.stamp m (put_in i n run rs) ≡ i + min n 1
 sought-own m zero n run [] none own l = rw own (omega (arith, l))
 sought-own m (suc i) n run [] none own l = absurd (omega (arith, l))
 sought-own m zero n run (r ∷ rs) none own l = go (ltb 0 n) refl
@@ -39,7 +40,8 @@ sought-own m zero n run (r ∷ rs) none own l = go (ltb 0 n) refl
     go : (b : Bool) → ltb 0 n ≡ b → sought run.stamp m (cond b (front n r ∷ run ∷ back n r ∷ rs) (run ∷ r ∷ rs)) ≡ 0 + min n 1
     go true e = let some : 0 < n = grind (arith) in rw (other, own) (omega (arith, some))
     go false e = let nothing : n ≡ 0 = grind (arith) in rw own (omega (arith, nothing))
-sought-own m (suc i) n run (r ∷ rs) none own l = rw (none-lasts run.stamp m r none.0) (omega (arith, sought-own m i n run rs none.1 own (omega (arith, l))))
+sought-own m (suc i) n run (r ∷ rs) none own l =
+    rw (none-lasts run.stamp m r none.0) (omega (arith, sought-own m i n run rs none.1 own (omega (arith, l))))
 
 longer : (i n : ℕ) (run : Run) (rs : List Run) → i + min n 1 ≤ length rs → i + min n 1 + 1 ≤ length (put_in i n run rs)
 longer zero n run [] l = omega (arith, l)
@@ -70,11 +72,14 @@ put-stands aim run ls h new =
       within = record { block = omega (arith, length-set ls at.block xs, h.within.block); place = omega (arith, here, long, f) };
       first = λ m own.
           let within : before_spot at ls + min n 1 ≤ length (joined ls) = omega (arith, h.within.place, bounded at ls h.within.block) in
-          let is = ap (sought run.stamp m) (put-joined at n run ls h.within) ∙ sought-own m (before_spot at ls) n run (joined ls) new own within in
+          let is =
+          ap (sought run.stamp m) (put-joined at n run ls h.within)
+          ∙ sought-own m (before_spot at ls) n run (joined ls) new own within in
           omega (arith, is, before, f);
     }
   where
-    bounded : (at : Spot) (ls : List (List Run)) → at.block < length ls → length (joined (take at.block ls)) + length (list_at at.block ls) ≤ length (joined ls)
+    bounded : (at : Spot) (ls : List (List Run)) → at.block < length ls
+        → length (joined (take at.block ls)) + length (list_at at.block ls) ≤ length (joined ls)
     bounded at ls l = omega (arith, length-at ls at.block l)
 
 -- the first run of a text
@@ -88,7 +93,8 @@ pub found-of : (f : Option Found) (bs cs : List Block) → bs ≡ cs → IsFound
 found-of f bs cs e is = let P : List Block → Type 0 = λ xs. IsFound f (lists xs) in subst P e is
 
 -- a byte of a run is there
-pub any-at : (a : ElemId) (i : ℕ) (rs : List Run) (r : Run) (qs : List Run) → drop i rs ≡ r ∷ qs → has a r ≡ true → list_any (has a) rs ≡ true
+pub any-at : (a : ElemId) (i : ℕ) (rs : List Run) (r : Run) (qs : List Run) → drop i rs ≡ r ∷ qs → has a r ≡ true
+    → list_any (has a) rs ≡ true
 any-at a i [] r qs e h = absurd (none i e)
   where
     none : (i : ℕ) → drop i [] ≡ r ∷ qs → ⊥

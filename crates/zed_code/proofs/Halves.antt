@@ -29,7 +29,8 @@ module _ (xs ys : List Run) where
   joined-halved (rs ∷ ls) zero l e = sym (append_assoc xs ys (joined ls)) ∙ ap (λ zs. zs ++ joined ls) (sym e)
   joined-halved (rs ∷ ls) (suc b) l e = ap (λ zs. rs ++ zs) (joined-halved ls b (omega (arith, l)) e)
 
-  pub full-halved : (ls : List (List Run)) (b : ℕ) → b < length ls → 0 < length xs → 0 < length ys → NoneEmpty ls → NoneEmpty (halved ls b xs ys)
+  pub full-halved : (ls : List (List Run)) (b : ℕ) → b < length ls → 0 < length xs → 0 < length ys → NoneEmpty ls
+      → NoneEmpty (halved ls b xs ys)
   full-halved [] b l m n full = absurd (omega (arith, l))
   full-halved (rs ∷ ls) zero l m n full = (m, (n, full.1))
   full-halved (rs ∷ ls) (suc b) l m n full = (full.0, full-halved ls b (omega (arith, l)) m n full.1)
@@ -60,7 +61,8 @@ module _ (xs ys : List Run) where
   before-halved (rs ∷ ls) zero (suc p) l m = absurd (omega (arith, m))
   before-halved (rs ∷ ls) (suc b) (suc p) l m = ap (λ zs. rs ++ zs) (before-halved ls b p (omega (arith, l)) (omega (arith, m)))
 
-  behind-halved : (ls : List (List Run)) (b p : ℕ) → b < length ls → b < p → list_at b ls ≡ xs ++ ys → joined (take (suc p) (halved ls b xs ys)) ≡ joined (take p ls)
+  behind-halved : (ls : List (List Run)) (b p : ℕ) → b < length ls → b < p → list_at b ls ≡ xs ++ ys
+      → joined (take (suc p) (halved ls b xs ys)) ≡ joined (take p ls)
   behind-halved [] b p l m e = absurd (omega (arith, l))
   behind-halved (rs ∷ ls) b zero l m e = absurd (omega (arith, m))
   behind-halved (rs ∷ ls) zero (suc p) l m e = sym (append_assoc xs ys (joined (take p ls))) ∙ ap (λ zs. zs ++ joined (take p ls)) (sym e)
@@ -72,7 +74,8 @@ module _ (xs ys : List Run) where
   take-all (rs ∷ ls) zero l = absurd (omega (arith, l))
   take-all (rs ∷ ls) (suc p) l = ap (λ zs. rs ++ zs) (take-all ls p (omega (arith, l)))
 
-  pub moved-halved : (ls : List (List Run)) (b p : ℕ) → b < length ls → length ls < greatest → list_at b ls ≡ xs ++ ys → joined (take (moved b p) (halved ls b xs ys)) ≡ joined (take p ls)
+  pub moved-halved : (ls : List (List Run)) (b p : ℕ) → b < length ls → length ls < greatest → list_at b ls ≡ xs ++ ys
+      → joined (take (moved b p) (halved ls b xs ys)) ≡ joined (take p ls)
   moved-halved ls b p l small e = go (ltb b p) refl
     where
       top : (k : Bool) → ltb p greatest ≡ k → b < p → joined (take (min (p + 1) greatest) (halved ls b xs ys)) ≡ joined (take p ls)
@@ -87,7 +90,8 @@ module _ (xs ys : List Run) where
       go true k = top (ltb p greatest) refl (grind (arith))
       go false k = before-halved ls b p l (grind (arith))
 
-get-moved : (f : ℕ → ℕ) (ps qs : List ℕ) (i p : ℕ) → i < length ps → slice_get (map f ps ++ qs) i ≡ Some p → (q : ℕ) × (slice_get ps i ≡ Some q) × (p ≡ f q)
+get-moved : (f : ℕ → ℕ) (ps qs : List ℕ) (i p : ℕ) → i < length ps → slice_get (map f ps ++ qs) i ≡ Some p
+    → (q : ℕ) × (slice_get ps i ≡ Some q) × (p ≡ f q)
 get-moved f [] qs i p l e = absurd (omega (arith, l))
 get-moved f (x ∷ ps) qs zero p l e = (x, refl, sym (some-is (f x) p e))
   where
@@ -95,7 +99,9 @@ get-moved f (x ∷ ps) qs zero p l e = (x, refl, sym (some-is (f x) p e))
     some-is m n e = cc
 get-moved f (x ∷ ps) qs (suc i) p l e = get-moved f ps qs i p (omega (arith, l)) e
 
-pub hints-halved : (xs ys : List Run) (ls : List (List Run)) (b : ℕ) (places : List ℕ) (hs : List (ElemId × ℕ)) → b < length ls → length ls < greatest → list_at b ls ≡ xs ++ ys → AreHints hs places ls → AreHints hs (map (moved b) places ++ ((b + 1) ∷ [])) (halved ls b xs ys)
+pub hints-halved : (xs ys : List Run) (ls : List (List Run)) (b : ℕ) (places : List ℕ) (hs : List (ElemId × ℕ)) → b < length ls
+    → length ls < greatest → list_at b ls ≡ xs ++ ys → AreHints hs places ls
+    → AreHints hs (map (moved b) places ++ ((b + 1) ∷ [])) (halved ls b xs ys)
 hints-halved xs ys ls b places hs l small e are hint one =
     let was = are hint one in
     record {
@@ -107,7 +113,9 @@ hints-halved xs ys ls b places hs l small e are hint one =
           rw from.2 (rw (moved-halved xs ys ls b from.0 l small e) (was.none from.0 from.1));
     }
 
-pub same-halved : (xs ys : List Run) (ls : List (List Run)) (b : ℕ) (places : List ℕ) → b < length ls → length ls < greatest → list_at b ls ≡ xs ++ ys → 0 < length xs → 0 < length ys → IsSameText ls (halved ls b xs ys) places (map (moved b) places ++ ((b + 1) ∷ []))
+pub same-halved : (xs ys : List Run) (ls : List (List Run)) (b : ℕ) (places : List ℕ) → b < length ls → length ls < greatest
+    → list_at b ls ≡ xs ++ ys → 0 < length xs → 0 < length ys
+    → IsSameText ls (halved ls b xs ys) places (map (moved b) places ++ ((b + 1) ∷ []))
 same-halved xs ys ls b places l small e m n = record {
   runs = joined-halved xs ys ls b l e;
   full = full-halved xs ys ls b l m n;
@@ -115,7 +123,8 @@ same-halved xs ys ls b places l small e m n = record {
 }
 
 -- a place in the first half, and one in the second
-pub stays-halved : (xs ys : List Run) (ls : List (List Run)) (at : Spot) → IsIn at 0 ls → at.place < length xs → IsMoved ls (halved ls at.block xs ys) at at
+pub stays-halved : (xs ys : List Run) (ls : List (List Run)) (at : Spot) → IsIn at 0 ls → at.place < length xs
+    → IsMoved ls (halved ls at.block xs ys) at at
 stays-halved xs ys ls at h l = record {
   place = ap (λ qs. length (joined qs) + at.place) (take-halved xs ys ls at.block h.block);
   within = λ n most there. record {
@@ -124,7 +133,9 @@ stays-halved xs ys ls at h l = record {
   };
 }
 
-pub goes-halved : (xs ys : List Run) (ls : List (List Run)) (at : Spot) → IsIn at 0 ls → length xs ≤ at.place → list_at at.block ls ≡ xs ++ ys → IsMoved ls (halved ls at.block xs ys) at (record { block = at.block + 1; place = at.place - length xs })
+pub goes-halved : (xs ys : List Run) (ls : List (List Run)) (at : Spot) → IsIn at 0 ls → length xs ≤ at.place
+    → list_at at.block ls ≡ xs ++ ys
+    → IsMoved ls (halved ls at.block xs ys) at (record { block = at.block + 1; place = at.place - length xs })
 goes-halved xs ys ls at h l e =
     let more = length-halved xs ys ls at.block h.block in
     let inside : at.block < length (halved ls at.block xs ys) = omega (arith, more, h.block) in
@@ -147,10 +158,12 @@ same-kept ls ps qs e = record {
   hints = λ hs are. let P : List ℕ → Type 0 = λ xs. AreHints hs xs ls in subst P (sym e) are;
 }
 
-pub moves-halved : (xs ys : List Run) (ls : List (List Run)) (at : Spot) → IsIn at 0 ls → list_at at.block ls ≡ xs ++ ys → IsMoved ls (halved ls at.block xs ys) at (spot_behind (length xs) at)
+pub moves-halved : (xs ys : List Run) (ls : List (List Run)) (at : Spot) → IsIn at 0 ls → list_at at.block ls ≡ xs ++ ys
+    → IsMoved ls (halved ls at.block xs ys) at (spot_behind (length xs) at)
 moves-halved xs ys ls at h e = go (ltb at.place (length xs)) refl
   where
-    go : (b : Bool) → ltb at.place (length xs) ≡ b → IsMoved ls (halved ls at.block xs ys) at (cond b at (record { block = at.block + 1; place = at.place - length xs }))
+    go : (b : Bool) → ltb at.place (length xs) ≡ b
+        → IsMoved ls (halved ls at.block xs ys) at (cond b at (record { block = at.block + 1; place = at.place - length xs }))
     go true b = stays-halved xs ys ls at h (grind (arith))
     go false b = goes-halved xs ys ls at h (grind (arith)) e
 
@@ -173,14 +186,17 @@ module _ (old kept new : List Block) (at : Spot) (was front back : Block) (k : k
       let m = ap length k in
       ap (λ bs. list_at at.block (lists bs)) (sym k) ∙ list_at-is kept at.block was (omega (arith, l, length-lists old, m)) e ∙ parts
 
-  pub split-same : (places more news : List ℕ) → length old < greatest → 0 < length front.runs.items → 0 < length back.runs.items → more ≡ places → news ≡ map (moved at.block) more ++ ((at.block + 1) ∷ []) → IsSameText (lists old) (lists new) places news
+  pub split-same : (places more news : List ℕ) → length old < greatest → 0 < length front.runs.items → 0 < length back.runs.items
+      → more ≡ places → news ≡ map (moved at.block) more ++ ((at.block + 1) ∷ [])
+      → IsSameText (lists old) (lists new) places news
   split-same places more news small m n kept-places moved-places =
       let same = same-halved front.runs.items back.runs.items (lists old) at.block places h.block (omega (arith, small, length-lists old)) here m n in
       let P : List (List Run) → Type 0 = λ ls. IsSameText (lists old) ls places (map (moved at.block) places ++ ((at.block + 1) ∷ [])) in
       let Q : List ℕ → Type 0 = λ ps. IsSameText (lists old) (lists new) places ps in
       subst Q (sym (moved-places ∙ ap (λ ps. map (moved at.block) ps ++ ((at.block + 1) ∷ [])) kept-places)) (subst P (sym becomes) same)
 
-  pub split-moved : (half : List Run) → half ≡ list_at at.block (lists (set kept at.block front)) → IsMoved (lists old) (lists new) at (spot_behind (length half) at)
+  pub split-moved : (half : List Run) → half ≡ list_at at.block (lists (set kept at.block front))
+      → IsMoved (lists old) (lists new) at (spot_behind (length half) at)
   split-moved half read =
       let l = h.block in
       let n = ap length k in

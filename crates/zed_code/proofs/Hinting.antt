@@ -51,7 +51,9 @@ other-stamp : (t s : Stamp) (rs : List Run) → NoneOf t rs → some_of s rs ≡
 other-stamp t s [] none h = absurd (cc)
 other-stamp t s (r ∷ rs) none h = go (same_stamp r.stamp s) (same_stamp t s) refl refl h (other-stamp t s rs none.1)
   where
-    go : (b d : Bool) → same_stamp r.stamp s ≡ b → same_stamp t s ≡ d → (b || some_of s rs) ≡ true → (some_of s rs ≡ true → same_stamp t s ≡ false) → same_stamp t s ≡ false
+    go : (b d : Bool) → same_stamp r.stamp s ≡ b → same_stamp t s ≡ d → (b || some_of s rs) ≡ true
+        → (some_of s rs ≡ true → same_stamp t s ≡ false)
+        → same_stamp t s ≡ false
     go b false e f k more = f
     go true true e f k more = let w : true ≡ false = clash r.stamp t s none.0 e f in absurd (cc)
       where
@@ -81,7 +83,8 @@ keeps-some s zero n run (r ∷ rs) h = go (ltb 0 n) (same_stamp run.stamp s) (sa
             ors x false z q = q
 keeps-some s (suc i) n run (r ∷ rs) h = go (same_stamp r.stamp s) h (keeps-some s i n run rs)
   where
-    go : (b : Bool) → (b || some_of s rs) ≡ true → (some_of s rs ≡ true → some_of s (put_in i n run rs) ≡ true) → (b || some_of s (put_in i n run rs)) ≡ true
+    go : (b : Bool) → (b || some_of s rs) ≡ true → (some_of s rs ≡ true → some_of s (put_in i n run rs) ≡ true)
+        → (b || some_of s (put_in i n run rs)) ≡ true
     go true k more = refl
     go false k more = more k
 
@@ -106,7 +109,9 @@ has-own (suc i) n run (r ∷ rs) = go (same_stamp r.stamp run.stamp) (has-own i 
     go false more = more
 
 -- an insertion of another edit puts none there
-none-put : (s : Stamp) (m i n : ℕ) (run : Run) (rs : List Run) → lasts s m run ≡ false → ((r : Run) (qs : List Run) → drop i rs ≡ r ∷ qs → n < r.len) → NoneFrom s m rs → NoneFrom s m (put_in i n run rs)
+none-put : (s : Stamp) (m i n : ℕ) (run : Run) (rs : List Run) → lasts s m run ≡ false
+    → ((r : Run) (qs : List Run) → drop i rs ≡ r ∷ qs → n < r.len) → NoneFrom s m rs
+    → NoneFrom s m (put_in i n run rs)
 none-put s m i n run [] other cut none = (other, tt)
 none-put s m zero n run (r ∷ rs) other cut none = go (ltb 0 n)
   where
@@ -123,7 +128,9 @@ none-put s m zero n run (r ∷ rs) other cut none = go (ltb 0 n)
     go false = (other, none)
 none-put s m (suc i) n run (r ∷ rs) other cut none = (none.0, none-put s m i n run rs other cut none.1)
 
-none-set : (s : Stamp) (m : ℕ) (ls : List (List Run)) (b p : ℕ) (xs : List Run) → (NoneFrom s m (list_at b ls) → NoneFrom s m xs) → NoneFrom s m (joined (take p ls)) → NoneFrom s m (joined (take p (set ls b xs)))
+none-set : (s : Stamp) (m : ℕ) (ls : List (List Run)) (b p : ℕ) (xs : List Run) → (NoneFrom s m (list_at b ls) → NoneFrom s m xs)
+    → NoneFrom s m (joined (take p ls))
+    → NoneFrom s m (joined (take p (set ls b xs)))
 none-set s m [] b p xs keep none = none
 none-set s m (rs ∷ ls) b zero xs keep none = tt
 none-set s m (rs ∷ ls) zero (suc p) xs keep none = all-both (λ r. lasts s m r ≡ false) xs (joined (take p ls)) (keep (all-left (λ r. lasts s m r ≡ false) rs (joined (take p ls)) none)) (all-right (λ r. lasts s m r ≡ false) rs (joined (take p ls)) none)
@@ -136,9 +143,12 @@ take-set (rs ∷ ls) zero (suc p) xs l = absurd (omega (arith, l))
 take-set (rs ∷ ls) (suc b) (suc p) xs l = ap (λ qs. rs ∷ qs) (take-set ls b p xs (omega (arith, l)))
 
 -- hints hold as a run is put in, and one of its own that is not behind it
-pub put-hints : (hs more : List (ElemId × ℕ)) (places : List ℕ) (ls : List (List Run)) (at : Spot) (n : ℕ) (run : Run) → IsIn at (min n 1) ls
-    → ((r : Run) (qs : List Run) → drop at.place (list_at at.block ls) ≡ r ∷ qs → n < r.len) → NoneOf run.stamp (joined ls) → AreHints hs places ls
-    → AddsHint places at.block (byte_of run.stamp 0) hs more → AreHints more places (set ls at.block (put_in at.place n run (list_at at.block ls)))
+pub put-hints : (hs more : List (ElemId × ℕ)) (places : List ℕ) (ls : List (List Run)) (at : Spot) (n : ℕ) (run : Run)
+    → IsIn at (min n 1) ls
+    → ((r : Run) (qs : List Run) → drop at.place (list_at at.block ls) ≡ r ∷ qs → n < r.len) → NoneOf run.stamp (joined ls)
+    → AreHints hs places ls
+    → AddsHint places at.block (byte_of run.stamp 0) hs more
+    → AreHints more places (set ls at.block (put_in at.place n run (list_at at.block ls)))
 put-hints hs more places ls at n run h cut new are adds hint one = go (adds hint one)
   where
     after : List (List Run)
@@ -151,7 +161,8 @@ put-hints hs more places ls at n run h cut new are adds hint one = go (adds hint
     go (inl old) =
         let was = are hint old in
         let differs : same_stamp run.stamp hint.0.name.stamp ≡ false = other-stamp run.stamp hint.0.name.stamp (joined ls) new was.some in
-        let other : lasts hint.0.name.stamp hint.0.name.index run ≡ false = ap (λ b. b && ltb hint.0.name.index (run.first + run.len)) differs in
+        let other : lasts hint.0.name.stamp hint.0.name.index run ≡ false =
+        ap (λ b. b && ltb hint.0.name.index (run.first + run.len)) differs in
         record {
           within = was.within;
           some = rw joins (keeps-some hint.0.name.stamp (before_spot at ls) n run (joined ls) was.some);
@@ -169,10 +180,14 @@ put-hints hs more places ls at n run h cut new are adds hint one = go (adds hint
         }
 
 -- and as one is kept that holds
-pub keep-hints : (hs more : List (ElemId × ℕ)) (places : List ℕ) (ls : List (List Run)) (b : ℕ) (id : ElemId) → some_of id.name.stamp (joined ls) ≡ true → NoneFrom id.name.stamp id.name.index (joined (take b ls)) → AreHints hs places ls → AddsHint places b id hs more → AreHints more places ls
+pub keep-hints : (hs more : List (ElemId × ℕ)) (places : List ℕ) (ls : List (List Run)) (b : ℕ) (id : ElemId)
+    → some_of id.name.stamp (joined ls) ≡ true → NoneFrom id.name.stamp id.name.index (joined (take b ls)) → AreHints hs places ls
+    → AddsHint places b id hs more
+    → AreHints more places ls
 keep-hints hs more places ls b id some none are adds hint one = go (adds hint one)
   where
-    fewer : (ls : List (List Run)) (p b : ℕ) → p ≤ b → NoneFrom id.name.stamp id.name.index (joined (take b ls)) → NoneFrom id.name.stamp id.name.index (joined (take p ls))
+    fewer : (ls : List (List Run)) (p b : ℕ) → p ≤ b → NoneFrom id.name.stamp id.name.index (joined (take b ls))
+        → NoneFrom id.name.stamp id.name.index (joined (take p ls))
     fewer ls zero b l k = tt
     fewer [] (suc p) b l k = tt
     fewer (rs ∷ ls) (suc p) zero l k = absurd (omega (arith, l))
@@ -197,11 +212,14 @@ no-hints hs places more ls are hint one = let h : false ≡ true = (are hint one
 some-run : (a : ElemId) (r : Run) → has a r ≡ true → lasts a.name.stamp a.name.index r ≡ true
 some-run a r h = go (same_stamp r.stamp a.name.stamp) h
   where
-    go : (s : Bool) → (s && (leb r.first a.name.index && ltb a.name.index (r.first + r.len))) ≡ true → (s && ltb a.name.index (r.first + r.len)) ≡ true
+    go : (s : Bool) → (s && (leb r.first a.name.index && ltb a.name.index (r.first + r.len))) ≡ true
+        → (s && ltb a.name.index (r.first + r.len)) ≡ true
     go false k = absurd (cc)
     go true k = grind (arith)
 
-none-behind : (a : ElemId) (r : Run) (rs : List Run) → lasts a.name.stamp a.name.index r ≡ true → has a r ≡ false → AllByRecursion (InOrder r) rs → list_any (has a) rs ≡ false
+none-behind : (a : ElemId) (r : Run) (rs : List Run) → lasts a.name.stamp a.name.index r ≡ true → has a r ≡ false
+    → AllByRecursion (InOrder r) rs
+    → list_any (has a) rs ≡ false
 none-behind a r [] h k ordered = refl
 none-behind a r (q ∷ rs) h k ordered = rw (misses (same_stamp q.stamp a.name.stamp) refl) (none-behind a r rs h k ordered.1)
   where
@@ -216,7 +234,8 @@ none-behind a r (q ∷ rs) h k ordered = rw (misses (same_stamp q.stamp a.name.s
     starts false f i l e m e2 = absurd (cc)
     starts true f i l e m e2 = grind (arith)
 
-    misses : (s : Bool) → same_stamp q.stamp a.name.stamp ≡ s → (s && (leb q.first a.name.index && ltb a.name.index (q.first + q.len))) ≡ false
+    misses : (s : Bool) → same_stamp q.stamp a.name.stamp ≡ s
+        → (s && (leb q.first a.name.index && ltb a.name.index (q.first + q.len))) ≡ false
     misses false e = refl
     misses true e =
         let l = stamped (same_stamp r.stamp a.name.stamp) a.name.index (r.first + r.len) h in
@@ -224,11 +243,14 @@ none-behind a r (q ∷ rs) h k ordered = rw (misses (same_stamp q.stamp a.name.s
         let n : a.name.index < q.first = omega (arith, l.1, b) in
         grind (arith)
 
-pub found-sought : (a : ElemId) (rs : List Run) → AllInOrder rs → list_any (has a) rs ≡ true → sought a.name.stamp a.name.index rs ≡ found a rs
+pub found-sought : (a : ElemId) (rs : List Run) → AllInOrder rs → list_any (has a) rs ≡ true
+    → sought a.name.stamp a.name.index rs ≡ found a rs
 found-sought a [] ordered h = refl
 found-sought a (r ∷ rs) ordered h = go (has a r) (lasts a.name.stamp a.name.index r) refl refl h (found-sought a rs ordered.1)
   where
-    go : (b d : Bool) → has a r ≡ b → lasts a.name.stamp a.name.index r ≡ d → (b || list_any (has a) rs) ≡ true → (list_any (has a) rs ≡ true → sought a.name.stamp a.name.index rs ≡ found a rs) → cond d 0 (suc (sought a.name.stamp a.name.index rs)) ≡ cond b 0 (suc (found a rs))
+    go : (b d : Bool) → has a r ≡ b → lasts a.name.stamp a.name.index r ≡ d → (b || list_any (has a) rs) ≡ true
+        → (list_any (has a) rs ≡ true → sought a.name.stamp a.name.index rs ≡ found a rs)
+        → cond d 0 (suc (sought a.name.stamp a.name.index rs)) ≡ cond b 0 (suc (found a rs))
     go true true e f k more = refl
     go true false e f k more = let m = some-run a r e in absurd (cc)
     go false true e f k more = let m = none-behind a r rs f e ordered.0 in absurd (cc)
@@ -238,12 +260,15 @@ pub found-any : (a : ElemId) (rs : List Run) → found a rs < length rs → list
 found-any a [] l = absurd (omega (arith, l))
 found-any a (r ∷ rs) l = go (has a r) l (found-any a rs)
   where
-    go : (b : Bool) → cond b 0 (suc (found a rs)) < suc (length rs) → (found a rs < length rs → list_any (has a) rs ≡ true) → (b || list_any (has a) rs) ≡ true
+    go : (b : Bool) → cond b 0 (suc (found a rs)) < suc (length rs) → (found a rs < length rs → list_any (has a) rs ≡ true)
+        → (b || list_any (has a) rs) ≡ true
     go true k more = refl
     go false k more = more (omega (arith, k))
 
 -- whether some run has a byte, as the first does that has such ones
-pub any-sought : (a : ElemId) (rs : List Run) (r : Run) (qs : List Run) → AllInOrder rs → drop (sought a.name.stamp a.name.index rs) rs ≡ r ∷ qs → list_any (has a) rs ≡ has a r
+pub any-sought : (a : ElemId) (rs : List Run) (r : Run) (qs : List Run) → AllInOrder rs
+    → drop (sought a.name.stamp a.name.index rs) rs ≡ r ∷ qs
+    → list_any (has a) rs ≡ has a r
 any-sought a [] r qs ordered e = absurd (cc)
 any-sought a (p ∷ rs) r qs ordered e = go (lasts a.name.stamp a.name.index p) refl e (any-sought a rs r qs ordered.1)
   where
@@ -255,7 +280,9 @@ any-sought a (p ∷ rs) r qs ordered e = go (lasts a.name.stamp a.name.index p) 
     last true k f = refl
     last false k f = none-behind a p rs f k ordered.0
 
-    go : (b : Bool) → lasts a.name.stamp a.name.index p ≡ b → drop (cond b 0 (suc (sought a.name.stamp a.name.index rs))) (p ∷ rs) ≡ r ∷ qs → (drop (sought a.name.stamp a.name.index rs) rs ≡ r ∷ qs → list_any (has a) rs ≡ has a r) → list_any (has a) (p ∷ rs) ≡ has a r
+    go : (b : Bool) → lasts a.name.stamp a.name.index p ≡ b → drop (cond b 0 (suc (sought a.name.stamp a.name.index rs))) (p ∷ rs) ≡ r ∷ qs
+        → (drop (sought a.name.stamp a.name.index rs) rs ≡ r ∷ qs → list_any (has a) rs ≡ has a r)
+        → list_any (has a) (p ∷ rs) ≡ has a r
     go true f k more = last (has a p) refl f ∙ ap (has a) (ap first k)
     go false f k more = rw (misses (has a p) refl) (more k)
       where
@@ -267,7 +294,10 @@ pub any-none : (a : ElemId) (rs : List Run) → sought a.name.stamp a.name.index
 any-none a [] e = refl
 any-none a (p ∷ rs) e = go (has a p) (lasts a.name.stamp a.name.index p) refl refl e (any-none a rs)
   where
-    go : (b d : Bool) → has a p ≡ b → lasts a.name.stamp a.name.index p ≡ d → cond d 0 (suc (sought a.name.stamp a.name.index rs)) ≡ suc (length rs) → (sought a.name.stamp a.name.index rs ≡ length rs → list_any (has a) rs ≡ false) → (b || list_any (has a) rs) ≡ false
+    go : (b d : Bool) → has a p ≡ b → lasts a.name.stamp a.name.index p ≡ d
+        → cond d 0 (suc (sought a.name.stamp a.name.index rs)) ≡ suc (length rs)
+        → (sought a.name.stamp a.name.index rs ≡ length rs → list_any (has a) rs ≡ false)
+        → (b || list_any (has a) rs) ≡ false
     go b true f g k more = absurd (omega (arith, k))
     go true false f g k more = let m = some-run a p f in absurd (cc)
     go false false f g k more = more (omega (arith, k))
@@ -277,7 +307,8 @@ pub sought-some : (s : Stamp) (n : ℕ) (rs : List Run) → sought s n rs < leng
 sought-some s n [] l = absurd (omega (arith, l))
 sought-some s n (r ∷ rs) l = go (same_stamp r.stamp s) (ltb n (r.first + r.len)) l (sought-some s n rs)
   where
-    go : (b d : Bool) → cond (b && d) 0 (suc (sought s n rs)) < suc (length rs) → (sought s n rs < length rs → some_of s rs ≡ true) → (b || some_of s rs) ≡ true
+    go : (b d : Bool) → cond (b && d) 0 (suc (sought s n rs)) < suc (length rs) → (sought s n rs < length rs → some_of s rs ≡ true)
+        → (b || some_of s rs) ≡ true
     go true d k more = refl
     go false d k more = more (omega (arith, k))
 
@@ -296,7 +327,9 @@ some-blocks [] l = absurd (omega (arith, l))
 some-blocks (rs ∷ ls) l = omega arith
 
 -- the hint of a run that is found
-pub hint-holds : (hs more : List (ElemId × ℕ)) (places : List ℕ) (ls : List (List Run)) (at : Spot) (id : ElemId) → IsIn at 1 ls → before_spot at ls ≡ sought id.name.stamp id.name.index (joined ls) → AreHints hs places ls → AddsHint places at.block id hs more → AreHints more places ls
+pub hint-holds : (hs more : List (ElemId × ℕ)) (places : List ℕ) (ls : List (List Run)) (at : Spot) (id : ElemId) → IsIn at 1 ls
+    → before_spot at ls ≡ sought id.name.stamp id.name.index (joined ls) → AreHints hs places ls → AddsHint places at.block id hs more
+    → AreHints more places ls
 hint-holds hs more places ls at id h e are adds =
     let l = inside-runs at ls h in
     let zero-in : IsIn at 0 ls = record { block = h.block; place = omega (arith, h.place) } in
@@ -306,7 +339,8 @@ hint-holds hs more places ls at id h e are adds =
     keep-hints hs more places ls at.block id (sought-some id.name.stamp id.name.index (joined ls) (omega (arith, e, l))) (all-left (λ r. lasts id.name.stamp id.name.index r ≡ false) (joined (take at.block ls)) (take at.place (list_at at.block ls)) front) are adds
 
 -- how many runs a search looks at
-pub looks : (ls : List (List Run)) (start v w : ℕ) (at : Spot) → NoneEmpty ls → (0 < length ls → start < length ls) → length (joined (take start ls)) ≤ before_spot at ls
+pub looks : (ls : List (List Run)) (start v w : ℕ) (at : Spot) → NoneEmpty ls → (0 < length ls → start < length ls)
+    → length (joined (take start ls)) ≤ before_spot at ls
     → w ≡ raised v (min (before_spot at ls + 1) (length (joined ls)) - length (joined (take start ls)))
     → (k : ℕ) × (w ≡ raised v k) × (k ≤ before_spot at ls + 1) × (k ≤ length (joined ls)) × (0 < length (joined ls) → 0 < k)
 looks ls start v w at full some l e = (
@@ -318,7 +352,8 @@ looks ls start v w at full some l e = (
 )
 
 -- the run at a place
-pub spot-run : (at : Spot) (ls : List (List Run)) (r : Run) → IsIn at 1 ls → r ≡ get_or (list_at at.block ls) at.place r → drop (before_spot at ls) (joined ls) ≡ r ∷ (drop (at.place + 1) (list_at at.block ls) ++ joined (drop (at.block + 1) ls))
+pub spot-run : (at : Spot) (ls : List (List Run)) (r : Run) → IsIn at 1 ls → r ≡ get_or (list_at at.block ls) at.place r
+    → drop (before_spot at ls) (joined ls) ≡ r ∷ (drop (at.place + 1) (list_at at.block ls) ++ joined (drop (at.block + 1) ls))
 spot-run at ls r h e =
     let zero-in : IsIn at 0 ls = record { block = h.block; place = omega (arith, h.place) } in
     drop-spot at ls zero-in
@@ -332,7 +367,9 @@ each-at P (rs ∷ ls) zero h = all-left P rs (joined ls) h
 each-at P (rs ∷ ls) (suc i) h = each-at P ls i (all-right P rs (joined ls) h)
 
 -- a run that is cut is cut within, as its block shows it
-pub cut-inside : (aim : Target) (ls : List (List Run)) (r : Run) (rs : List Run) → IsTarget aim ls → drop aim.at.place (list_at aim.at.block ls) ≡ r ∷ rs → cut_bytes aim.cut < r.len
+pub cut-inside : (aim : Target) (ls : List (List Run)) (r : Run) (rs : List Run) → IsTarget aim ls
+    → drop aim.at.place (list_at aim.at.block ls) ≡ r ∷ rs
+    → cut_bytes aim.cut < r.len
 cut-inside aim ls r rs h e =
     let zero-in : IsIn aim.at 0 ls = record { block = h.within.block; place = omega (arith, h.within.place) } in
     h.cut r (rs ++ joined (drop (aim.at.block + 1) ls)) (drop-spot aim.at ls zero-in ∙ ap (λ xs. xs ++ joined (drop (aim.at.block + 1) ls)) e)
@@ -349,12 +386,16 @@ cut-there aim ls h =
     cut-front aim.cut (drop aim.at.place (list_at aim.at.block ls)) (joined (drop (aim.at.block + 1) ls)) (subst P (drop-spot aim.at ls zero-in) h.there)
 
 -- the run that was looked at in a block, among all runs
-pub spot-looked : (at : Spot) (ls : List (List Run)) (rs : List Run) (r : Run) → IsIn at 1 ls → rs ≡ list_at at.block ls → drop at.place rs ≡ r ∷ drop (at.place + 1) rs → drop (before_spot at ls) (joined ls) ≡ r ∷ (drop (at.place + 1) rs ++ joined (drop (at.block + 1) ls))
+pub spot-looked : (at : Spot) (ls : List (List Run)) (rs : List Run) (r : Run) → IsIn at 1 ls → rs ≡ list_at at.block ls
+    → drop at.place rs ≡ r ∷ drop (at.place + 1) rs
+    → drop (before_spot at ls) (joined ls) ≡ r ∷ (drop (at.place + 1) rs ++ joined (drop (at.block + 1) ls))
 spot-looked at ls rs r h e looked =
     let zero-in : IsIn at 0 ls = record { block = h.block; place = omega (arith, h.place) } in
     drop-spot at ls zero-in ∙ ap (λ xs. xs ++ joined (drop (at.block + 1) ls)) (ap (drop at.place) (sym e) ∙ looked)
 
-pub spot-read : (at : Spot) (ls : List (List Run)) (rs : List Run) (d : Run) → IsIn at 1 ls → rs ≡ list_at at.block ls → drop (before_spot at ls) (joined ls) ≡ get_or rs at.place d ∷ (drop (at.place + 1) (list_at at.block ls) ++ joined (drop (at.block + 1) ls))
+pub spot-read : (at : Spot) (ls : List (List Run)) (rs : List Run) (d : Run) → IsIn at 1 ls → rs ≡ list_at at.block ls
+    → drop (before_spot at ls) (joined ls)
+    ≡ get_or rs at.place d ∷ (drop (at.place + 1) (list_at at.block ls) ++ joined (drop (at.block + 1) ls))
 spot-read at ls rs d h e = spot-run at ls (get_or rs at.place d) h (ap (λ xs. get_or xs at.place d) e ∙ get_or_default (list_at at.block ls) at.place d (get_or rs at.place d) (omega (arith, h.place)))
 
 -- the run that was found has the byte
@@ -366,7 +407,9 @@ found-run a r (q ∷ rs) qs l e = go (has a q) refl l e (found-run a r rs qs)
     first [] = r
     first (x ∷ xs) = x
 
-    go : (b : Bool) → has a q ≡ b → cond b 0 (suc (found a rs)) < suc (length rs) → drop (cond b 0 (suc (found a rs))) (q ∷ rs) ≡ r ∷ qs → (found a rs < length rs → drop (found a rs) rs ≡ r ∷ qs → has a r ≡ true) → has a r ≡ true
+    go : (b : Bool) → has a q ≡ b → cond b 0 (suc (found a rs)) < suc (length rs) → drop (cond b 0 (suc (found a rs))) (q ∷ rs) ≡ r ∷ qs
+        → (found a rs < length rs → drop (found a rs) rs ≡ r ∷ qs → has a r ≡ true)
+        → has a r ≡ true
     go true b k f more = ap (has a) (sym (ap first f)) ∙ b
     go false b k f more = more (omega (arith, k)) f
 
@@ -378,7 +421,9 @@ first-is r q rs qs e = ap first e
     first (x ∷ xs) = x
 
 -- where a run goes, once its place is elsewhere
-pub target-moved : (aim : Target) (old new : List (List Run)) (to : Spot) → IsTarget aim old → IsMoved old new aim.at to → joined new ≡ joined old → IsTarget (record { at = to; cut = aim.cut }) new
+pub target-moved : (aim : Target) (old new : List (List Run)) (to : Spot) → IsTarget aim old → IsMoved old new aim.at to
+    → joined new ≡ joined old
+    → IsTarget (record { at = to; cut = aim.cut }) new
 target-moved aim old new to h moves same = record {
   within = moves.within (min (cut_bytes aim.cut) 1) (omega arith) h.within;
   cut = λ r rs e. h.cut r rs (ap (λ n. drop n (joined old)) (sym moves.place) ∙ ap (drop (before_spot to new)) (sym same) ∙ e);
@@ -386,14 +431,17 @@ target-moved aim old new to h moves same = record {
 }
 
 -- a place before which not all runs stand is in a block
-pub is-inside : (at : Spot) (ls : List (List Run)) (n : ℕ) → before_spot at ls < length (joined ls) → (at.block < n → IsIn at 1 ls) → (n ≤ at.block → before_spot at ls ≡ length (joined ls)) → IsIn at 1 ls
+pub is-inside : (at : Spot) (ls : List (List Run)) (n : ℕ) → before_spot at ls < length (joined ls) → (at.block < n → IsIn at 1 ls)
+    → (n ≤ at.block → before_spot at ls ≡ length (joined ls))
+    → IsIn at 1 ls
 is-inside at ls n l inside end = go (ltb at.block n) refl
   where
     go : (b : Bool) → ltb at.block n ≡ b → IsIn at 1 ls
     go true e = inside (grind (arith))
     go false e = let far : n ≤ at.block = grind (arith) in let m = end far in absurd (omega (arith, l, m))
 
-pub hints-of : (hs : List (ElemId × ℕ)) (ps qs : List ℕ) (bs cs : List Block) → ps ≡ qs → bs ≡ cs → AreHints hs ps (lists bs) → AreHints hs qs (lists cs)
+pub hints-of : (hs : List (ElemId × ℕ)) (ps qs : List ℕ) (bs cs : List Block) → ps ≡ qs → bs ≡ cs → AreHints hs ps (lists bs)
+    → AreHints hs qs (lists cs)
 hints-of hs ps qs bs cs e f are =
     let P : List ℕ → Type 0 = λ xs. AreHints hs xs (lists bs) in
     let Q : List Block → Type 0 = λ xs. AreHints hs qs (lists xs) in

@@ -25,7 +25,8 @@ joined-take [] i l = absurd (omega (arith, l))
 joined-take (rs ∷ ls) zero l = append-nil rs
 joined-take (rs ∷ ls) (suc i) l = let e : suc i + 1 ≡ suc (i + 1) = omega arith in rw e (ap (λ xs. rs ++ xs) (joined-take ls i (omega (arith, l))) ∙ sym (append_assoc rs (joined (take i ls)) (list_at i ls)))
 
-pub joined-at : (ls : List (List Run)) (i : ℕ) → i < length ls → joined ls ≡ joined (take i ls) ++ (list_at i ls ++ joined (drop (i + 1) ls))
+pub joined-at : (ls : List (List Run)) (i : ℕ) → i < length ls
+    → joined ls ≡ joined (take i ls) ++ (list_at i ls ++ joined (drop (i + 1) ls))
 joined-at ls i l = joined-cut ls i ∙ ap (λ xs. joined (take i ls) ++ xs) (joined-drop ls i l)
 
 pub drop-front : {X : Type 0} (xs ys : List X) (n : ℕ) → drop (length xs + n) (xs ++ ys) ≡ drop n ys
@@ -47,23 +48,27 @@ take-within [] ys (suc n) l = absurd (omega (arith, l))
 take-within (x ∷ xs) ys (suc n) l = ap (λ zs. x ∷ zs) (take-within xs ys n (omega (arith, l)))
 
 -- the runs from a place on
-pub drop-spot : (at : Spot) (ls : List (List Run)) → IsIn at 0 ls → drop (before_spot at ls) (joined ls) ≡ drop at.place (list_at at.block ls) ++ joined (drop (at.block + 1) ls)
+pub drop-spot : (at : Spot) (ls : List (List Run)) → IsIn at 0 ls
+    → drop (before_spot at ls) (joined ls) ≡ drop at.place (list_at at.block ls) ++ joined (drop (at.block + 1) ls)
 drop-spot at ls h =
     ap (λ xs. drop (before_spot at ls) xs) (joined-at ls at.block h.block)
     ∙ drop-front (joined (take at.block ls)) (list_at at.block ls ++ joined (drop (at.block + 1) ls)) at.place
     ∙ drop-within (list_at at.block ls) (joined (drop (at.block + 1) ls)) at.place (omega (arith, h.place))
 
-pub take-spot : (at : Spot) (ls : List (List Run)) → IsIn at 0 ls → take (before_spot at ls) (joined ls) ≡ joined (take at.block ls) ++ take at.place (list_at at.block ls)
+pub take-spot : (at : Spot) (ls : List (List Run)) → IsIn at 0 ls
+    → take (before_spot at ls) (joined ls) ≡ joined (take at.block ls) ++ take at.place (list_at at.block ls)
 take-spot at ls h =
     ap (λ xs. take (before_spot at ls) xs) (joined-at ls at.block h.block)
     ∙ take-front (joined (take at.block ls)) (list_at at.block ls ++ joined (drop (at.block + 1) ls)) at.place
     ∙ ap (λ xs. joined (take at.block ls) ++ xs) (take-within (list_at at.block ls) (joined (drop (at.block + 1) ls)) at.place (omega (arith, h.place)))
 
 -- how many runs there are
-pub length-at : (ls : List (List Run)) (i : ℕ) → i < length ls → length (joined ls) ≡ length (joined (take i ls)) + (length (list_at i ls) + length (joined (drop (i + 1) ls)))
+pub length-at : (ls : List (List Run)) (i : ℕ) → i < length ls
+    → length (joined ls) ≡ length (joined (take i ls)) + (length (list_at i ls) + length (joined (drop (i + 1) ls)))
 length-at ls i l = ap length (joined-at ls i l) ∙ omega (arith, length-append (joined (take i ls)) (list_at i ls ++ joined (drop (i + 1) ls)), length-append (list_at i ls) (joined (drop (i + 1) ls)))
 
-pub length-next : (ls : List (List Run)) (i : ℕ) → i < length ls → length (joined (take (i + 1) ls)) ≡ length (joined (take i ls)) + length (list_at i ls)
+pub length-next : (ls : List (List Run)) (i : ℕ) → i < length ls
+    → length (joined (take (i + 1) ls)) ≡ length (joined (take i ls)) + length (list_at i ls)
 length-next ls i l = ap length (joined-take ls i l) ∙ length-append (joined (take i ls)) (list_at i ls)
 
 -- the runs of a block that is read
@@ -88,7 +93,9 @@ sought-pass : (s : Stamp) (n : ℕ) (rs qs : List Run) → length rs ≤ sought 
 sought-pass s n [] qs l = omega arith
 sought-pass s n (r ∷ rs) qs l = go (lasts s n r) (λ k. sought-pass s n rs qs k) l
   where
-    go : (b : Bool) → (length rs ≤ sought s n rs → sought s n (rs ++ qs) ≡ length rs + sought s n qs) → suc (length rs) ≤ cond b 0 (suc (sought s n rs)) → cond b 0 (suc (sought s n (rs ++ qs))) ≡ suc (length rs) + sought s n qs
+    go : (b : Bool) → (length rs ≤ sought s n rs → sought s n (rs ++ qs) ≡ length rs + sought s n qs)
+        → suc (length rs) ≤ cond b 0 (suc (sought s n rs))
+        → cond b 0 (suc (sought s n (rs ++ qs))) ≡ suc (length rs) + sought s n qs
     go true more k = absurd (omega (arith, k))
     go false more k = let m : length rs ≤ sought s n rs = omega (arith, k) in omega (arith, more m)
 
@@ -96,7 +103,8 @@ sought-in : (s : Stamp) (n : ℕ) (rs qs : List Run) → sought s n rs < length 
 sought-in s n [] qs l = absurd (omega (arith, l))
 sought-in s n (r ∷ rs) qs l = go (lasts s n r) (λ k. sought-in s n rs qs k) l
   where
-    go : (b : Bool) → (sought s n rs < length rs → sought s n (rs ++ qs) ≡ sought s n rs) → cond b 0 (suc (sought s n rs)) < suc (length rs) → cond b 0 (suc (sought s n (rs ++ qs))) ≡ cond b 0 (suc (sought s n rs))
+    go : (b : Bool) → (sought s n rs < length rs → sought s n (rs ++ qs) ≡ sought s n rs) → cond b 0 (suc (sought s n rs)) < suc (length rs)
+        → cond b 0 (suc (sought s n (rs ++ qs))) ≡ cond b 0 (suc (sought s n rs))
     go true more k = refl
     go false more k = ap suc (more (omega (arith, k)))
 
@@ -105,20 +113,25 @@ module _ (s : Stamp) (n : ℕ) (ls : List (List Run)) (b k : ℕ) (rs : List Run
   pub sought-here : k < length rs → length (joined (take b ls)) + k ≡ sought s n (joined ls)
   sought-here m =
       let p = told ∙ ap (sought s n) read in
-      let e = ap (sought s n) (joined-drop ls b l) ∙ sought-in s n (list_at b ls) (joined (drop (b + 1) ls)) (omega (arith, m, p, ap length read)) in
+      let e =
+      ap (sought s n) (joined-drop ls b l)
+      ∙ sought-in s n (list_at b ls) (joined (drop (b + 1) ls)) (omega (arith, m, p, ap length read)) in
       omega (arith, e, p, rest)
 
   pub sought-behind : length rs ≤ k → length (joined (take (b + 1) ls)) + sought s n (joined (drop (b + 1) ls)) ≡ sought s n (joined ls)
   sought-behind m =
       let p = told ∙ ap (sought s n) read in
-      let e = ap (sought s n) (joined-drop ls b l) ∙ sought-pass s n (list_at b ls) (joined (drop (b + 1) ls)) (omega (arith, m, p, ap length read)) in
+      let e =
+      ap (sought s n) (joined-drop ls b l)
+      ∙ sought-pass s n (list_at b ls) (joined (drop (b + 1) ls)) (omega (arith, m, p, ap length read)) in
       omega (arith, e, rest, length-next ls b l)
 
 pub none-sought : (s : Stamp) (n : ℕ) (rs : List Run) → NoneFrom s n (take (sought s n rs) rs)
 none-sought s n [] = tt
 none-sought s n (r ∷ rs) = go (lasts s n r) refl (none-sought s n rs)
   where
-    go : (b : Bool) → lasts s n r ≡ b → NoneFrom s n (take (sought s n rs) rs) → NoneFrom s n (take (cond b 0 (suc (sought s n rs))) (r ∷ rs))
+    go : (b : Bool) → lasts s n r ≡ b → NoneFrom s n (take (sought s n rs) rs)
+        → NoneFrom s n (take (cond b 0 (suc (sought s n rs))) (r ∷ rs))
     go true e more = tt
     go false e more = (e, more)
 
@@ -126,7 +139,9 @@ pub passed-pass : (s : Stamp) (rs qs : List Run) → length rs ≤ passed s rs �
 passed-pass s [] qs l = omega arith
 passed-pass s (r ∷ rs) qs l = go (before s r.stamp) (λ k. passed-pass s rs qs k) l
   where
-    go : (b : Bool) → (length rs ≤ passed s rs → passed s (rs ++ qs) ≡ length rs + passed s qs) → suc (length rs) ≤ cond b (suc (passed s rs)) 0 → cond b (suc (passed s (rs ++ qs))) 0 ≡ suc (length rs) + passed s qs
+    go : (b : Bool) → (length rs ≤ passed s rs → passed s (rs ++ qs) ≡ length rs + passed s qs)
+        → suc (length rs) ≤ cond b (suc (passed s rs)) 0
+        → cond b (suc (passed s (rs ++ qs))) 0 ≡ suc (length rs) + passed s qs
     go false more k = absurd (omega (arith, k))
     go true more k = let m : length rs ≤ passed s rs = omega (arith, k) in omega (arith, more m)
 
@@ -134,12 +149,14 @@ pub passed-in : (s : Stamp) (rs qs : List Run) → passed s rs < length rs → p
 passed-in s [] qs l = absurd (omega (arith, l))
 passed-in s (r ∷ rs) qs l = go (before s r.stamp) (λ k. passed-in s rs qs k) l
   where
-    go : (b : Bool) → (passed s rs < length rs → passed s (rs ++ qs) ≡ passed s rs) → cond b (suc (passed s rs)) 0 < suc (length rs) → cond b (suc (passed s (rs ++ qs))) 0 ≡ cond b (suc (passed s rs)) 0
+    go : (b : Bool) → (passed s rs < length rs → passed s (rs ++ qs) ≡ passed s rs) → cond b (suc (passed s rs)) 0 < suc (length rs)
+        → cond b (suc (passed s (rs ++ qs))) 0 ≡ cond b (suc (passed s rs)) 0
     go false more k = refl
     go true more k = ap suc (more (omega (arith, k)))
 
 pub drop-block : (ls : List (List Run)) (i : ℕ) → drop (length (joined (take i ls)) + 0) (joined ls) ≡ joined (drop i ls)
-drop-block ls i = ap (λ xs. drop (length (joined (take i ls)) + 0) xs) (joined-cut ls i) ∙ drop-front (joined (take i ls)) (joined (drop i ls)) 0
+drop-block ls i =
+    ap (λ xs. drop (length (joined (take i ls)) + 0) xs) (joined-cut ls i) ∙ drop-front (joined (take i ls)) (joined (drop i ls)) 0
 
 pub drop-none : (ls : List (List Run)) (i : ℕ) → length ls ≤ i → joined (drop i ls) ≡ []
 drop-none [] zero l = refl
@@ -152,25 +169,32 @@ module _ (s : Stamp) (at : Spot) (ls : List (List Run)) (k : ℕ) (h : IsIn at 0
   from : drop (before_spot at ls) (joined ls) ≡ drop at.place (list_at at.block ls) ++ joined (drop (at.block + 1) ls)
   from = drop-spot at ls h
 
-  pub pass-within : k < length (list_at at.block ls) → length (joined (take at.block ls)) + k ≡ before_spot at ls + passed s (drop (before_spot at ls) (joined ls))
+  pub pass-within : k < length (list_at at.block ls)
+      → length (joined (take at.block ls)) + k ≡ before_spot at ls + passed s (drop (before_spot at ls) (joined ls))
   pass-within l =
       let n = length-drop at.place (list_at at.block ls) in
       let m : passed s (drop at.place (list_at at.block ls)) < length (drop at.place (list_at at.block ls)) = omega (arith, n, l, e) in
-      let p : passed s (drop (before_spot at ls) (joined ls)) ≡ passed s (drop at.place (list_at at.block ls)) = ap (passed s) from ∙ passed-in s (drop at.place (list_at at.block ls)) (joined (drop (at.block + 1) ls)) m in
+      let p : passed s (drop (before_spot at ls) (joined ls)) ≡ passed s (drop at.place (list_at at.block ls)) =
+      ap (passed s) from ∙ passed-in s (drop at.place (list_at at.block ls)) (joined (drop (at.block + 1) ls)) m in
       omega (arith, p, e)
 
-  pub pass-beyond : length (list_at at.block ls) ≤ k → length (joined (take (at.block + 1) ls)) + 0 + passed s (drop (length (joined (take (at.block + 1) ls)) + 0) (joined ls)) ≡ before_spot at ls + passed s (drop (before_spot at ls) (joined ls))
+  pub pass-beyond : length (list_at at.block ls) ≤ k
+      → length (joined (take (at.block + 1) ls)) + 0 + passed s (drop (length (joined (take (at.block + 1) ls)) + 0) (joined ls))
+      ≡ before_spot at ls + passed s (drop (before_spot at ls) (joined ls))
   pass-beyond l =
       let n = length-drop at.place (list_at at.block ls) in
       let m : length (drop at.place (list_at at.block ls)) ≤ passed s (drop at.place (list_at at.block ls)) = omega (arith, n, l, e) in
       let p : passed s (drop (before_spot at ls) (joined ls)) ≡ length (drop at.place (list_at at.block ls)) + passed s (joined (drop (at.block + 1) ls)) = ap (passed s) from ∙ passed-pass s (drop at.place (list_at at.block ls)) (joined (drop (at.block + 1) ls)) m in
-      let q : passed s (drop (length (joined (take (at.block + 1) ls)) + 0) (joined ls)) ≡ passed s (joined (drop (at.block + 1) ls)) = ap (passed s) (drop-block ls (at.block + 1)) in
+      let q : passed s (drop (length (joined (take (at.block + 1) ls)) + 0) (joined ls)) ≡ passed s (joined (drop (at.block + 1) ls)) =
+      ap (passed s) (drop-block ls (at.block + 1)) in
       omega (arith, p, q, n, h.place, length-next ls at.block h.block)
 
-  pub pass-last : length ls ≤ at.block + 1 → length (joined (take at.block ls)) + k ≡ before_spot at ls + passed s (drop (before_spot at ls) (joined ls))
+  pub pass-last : length ls ≤ at.block + 1
+      → length (joined (take at.block ls)) + k ≡ before_spot at ls + passed s (drop (before_spot at ls) (joined ls))
   pass-last l =
       let p : passed s (drop (before_spot at ls) (joined ls)) ≡ passed s (drop at.place (list_at at.block ls)) = ap (passed s) (from ∙ ap (λ xs. drop at.place (list_at at.block ls) ++ xs) (drop-none ls (at.block + 1) l) ∙ append-nil (drop at.place (list_at at.block ls))) in
       omega (arith, p, e)
 
-pub length-last : (ls : List (List Run)) (i : ℕ) → i < length ls → length ls ≤ i + 1 → length (joined ls) ≡ length (joined (take i ls)) + length (list_at i ls)
+pub length-last : (ls : List (List Run)) (i : ℕ) → i < length ls → length ls ≤ i + 1
+    → length (joined ls) ≡ length (joined (take i ls)) + length (list_at i ls)
 length-last ls i l m = let n = ap length (drop-none ls (i + 1) m) in omega (arith, length-at ls i l, n)

@@ -18,15 +18,19 @@ module _ (P : Run → Type 0) (run : Run) (new : P run) where
       go more true = (h.0, more)
       go more false = (new, h)
 
-  pub all-put_at : (a : ElemId) → ((r : Run) → P r → has a r ≡ true → up_to a r < r.len → P (front (up_to a r) r) × P (back (up_to a r) r)) → (rs : List Run) → AllByRecursion P rs → AllByRecursion P (put_at a run rs)
+  pub all-put_at : (a : ElemId) → ((r : Run) → P r → has a r ≡ true → up_to a r < r.len → P (front (up_to a r) r) × P (back (up_to a r) r))
+      → (rs : List Run) → AllByRecursion P rs
+      → AllByRecursion P (put_at a run rs)
   all-put_at a parts [] h = tt
   all-put_at a parts (r ∷ rs) h = go (all-put_at a parts rs h.1) (has a r) refl
     where
-      split : (b : Bool) → ltb (up_to a r) r.len ≡ b → has a r ≡ true → AllByRecursion P (cond b (front (up_to a r) r ∷ run ∷ back (up_to a r) r ∷ rs) (r ∷ pass_runs run rs))
+      split : (b : Bool) → ltb (up_to a r) r.len ≡ b → has a r ≡ true
+          → AllByRecursion P (cond b (front (up_to a r) r ∷ run ∷ back (up_to a r) r ∷ rs) (r ∷ pass_runs run rs))
       split true b held = let p = parts r h.0 held (grind (arith)) in (p.0, (new, (p.1, h.1)))
       split false b held = (h.0, all-pass_runs rs h.1)
 
-      go : AllByRecursion P (put_at a run rs) → (b : Bool) → has a r ≡ b → AllByRecursion P (cond b (put_behind a run r rs) (r ∷ put_at a run rs))
+      go : AllByRecursion P (put_at a run rs) → (b : Bool) → has a r ≡ b
+          → AllByRecursion P (cond b (put_behind a run r rs) (r ∷ put_at a run rs))
       go more true b = split (ltb (up_to a r) r.len) refl b
       go more false b = (h.0, more)
 
@@ -35,7 +39,8 @@ is-front : (store : List ℕ) (k : ℕ) (r : Run) → IsRun store r → 0 < k �
 is-front store k r h some most = record { some = some; within = omega (arith, h.within, most); numbered = omega (arith, h.numbered, most) }
 
 is-back : (store : List ℕ) (k : ℕ) (r : Run) → IsRun store r → k < r.len → IsRun store (back k r)
-is-back store k r h less = record { some = omega (arith, less); within = omega (arith, h.within, less); numbered = omega (arith, h.numbered, less) }
+is-back store k r h less =
+    record { some = omega (arith, less); within = omega (arith, h.within, less); numbered = omega (arith, h.numbered, less) }
 
 -- the new run comes in order with those of other insertions
 order-other : (r run : Run) → same_stamp r.stamp run.stamp ≡ false → InOrder r run × InOrder run r
@@ -60,7 +65,8 @@ order-pass_runs run (r ∷ rs) n h = go (order-pass_runs run rs n.1 h.1) (before
     go more false = (order-others run (r ∷ rs) n, h)
 
 -- the parts of a run come in order before the runs behind it
-order-parts : (k : ℕ) (r : Run) (rs : List Run) → k ≤ r.len → AllByRecursion (InOrder r) rs → AllByRecursion (InOrder (front k r)) rs × AllByRecursion (InOrder (back k r)) rs
+order-parts : (k : ℕ) (r : Run) (rs : List Run) → k ≤ r.len → AllByRecursion (InOrder r) rs
+    → AllByRecursion (InOrder (front k r)) rs × AllByRecursion (InOrder (back k r)) rs
 order-parts k r [] l h = (tt, tt)
 order-parts k r (q ∷ rs) l h =
     let more = order-parts k r rs l h.1 in
@@ -70,7 +76,8 @@ order-put_at : (a : ElemId) (run : Run) (rs : List Run) → NoneOf run.stamp rs 
 order-put_at a run [] n h = tt
 order-put_at a run (r ∷ rs) n h = go (order-put_at a run rs n.1 h.1) (has a r) refl
   where
-    split : (b : Bool) → ltb (up_to a r) r.len ≡ b → AllInOrder (cond b (front (up_to a r) r ∷ run ∷ back (up_to a r) r ∷ rs) (r ∷ pass_runs run rs))
+    split : (b : Bool) → ltb (up_to a r) r.len ≡ b
+        → AllInOrder (cond b (front (up_to a r) r ∷ run ∷ back (up_to a r) r ∷ rs) (r ∷ pass_runs run rs))
     split true b =
         let l : up_to a r < r.len = grind (arith) in
         let p = order-parts (up_to a r) r rs (omega (arith, l)) h.0 in
@@ -88,7 +95,8 @@ total-pass_runs : (run : Run) (rs : List Run) → total (pass_runs run rs) ≡ r
 total-pass_runs run [] = refl
 total-pass_runs run (r ∷ rs) = go (total-pass_runs run rs) (before run.stamp r.stamp)
   where
-    go : total (pass_runs run rs) ≡ run.len + total rs → (b : Bool) → total (cond b (r ∷ pass_runs run rs) (run ∷ r ∷ rs)) ≡ run.len + (r.len + total rs)
+    go : total (pass_runs run rs) ≡ run.len + total rs → (b : Bool)
+        → total (cond b (r ∷ pass_runs run rs) (run ∷ r ∷ rs)) ≡ run.len + (r.len + total rs)
     go more true = omega (arith, more)
     go more false = refl
 
@@ -96,11 +104,13 @@ total-put_at : (a : ElemId) (run : Run) (rs : List Run) → found a rs < length 
 total-put_at a run [] h = absurd (omega (arith, h))
 total-put_at a run (r ∷ rs) h = go (λ k. total-put_at a run rs k) (has a r) refl
   where
-    split : (b : Bool) → ltb (up_to a r) r.len ≡ b → total (cond b (front (up_to a r) r ∷ run ∷ back (up_to a r) r ∷ rs) (r ∷ pass_runs run rs)) ≡ run.len + (r.len + total rs)
+    split : (b : Bool) → ltb (up_to a r) r.len ≡ b
+        → total (cond b (front (up_to a r) r ∷ run ∷ back (up_to a r) r ∷ rs) (r ∷ pass_runs run rs)) ≡ run.len + (r.len + total rs)
     split true b = let l : up_to a r < r.len = grind (arith) in omega (arith, l)
     split false b = omega (arith, total-pass_runs run rs)
 
-    go : (found a rs < length rs → total (put_at a run rs) ≡ run.len + total rs) → (b : Bool) → has a r ≡ b → total (cond b (put_behind a run r rs) (r ∷ put_at a run rs)) ≡ run.len + (r.len + total rs)
+    go : (found a rs < length rs → total (put_at a run rs) ≡ run.len + total rs) → (b : Bool) → has a r ≡ b
+        → total (cond b (put_behind a run r rs) (r ∷ put_at a run rs)) ≡ run.len + (r.len + total rs)
     go more true b = split (ltb (up_to a r) r.len) refl
     go more false b =
         let k : suc (found a rs) < suc (length rs) = rw b at h in
@@ -111,7 +121,8 @@ length-pass_runs : (run : Run) (rs : List Run) → length (pass_runs run rs) ≡
 length-pass_runs run [] = refl
 length-pass_runs run (r ∷ rs) = go (length-pass_runs run rs) (before run.stamp r.stamp)
   where
-    go : length (pass_runs run rs) ≡ suc (length rs) → (b : Bool) → length (cond b (r ∷ pass_runs run rs) (run ∷ r ∷ rs)) ≡ suc (suc (length rs))
+    go : length (pass_runs run rs) ≡ suc (length rs) → (b : Bool)
+        → length (cond b (r ∷ pass_runs run rs) (run ∷ r ∷ rs)) ≡ suc (suc (length rs))
     go more true = ap suc more
     go more false = refl
 
@@ -123,7 +134,8 @@ length-put_at a run (r ∷ rs) = go (length-put_at a run rs) (has a r)
     split true = omega arith
     split false = omega (arith, length-pass_runs run rs)
 
-    go : length (put_at a run rs) ≤ length rs + 2 → (b : Bool) → length (cond b (put_behind a run r rs) (r ∷ put_at a run rs)) ≤ suc (length rs) + 2
+    go : length (put_at a run rs) ≤ length rs + 2 → (b : Bool)
+        → length (cond b (put_behind a run r rs) (r ∷ put_at a run rs)) ≤ suc (length rs) + 2
     go more true = split (ltb (up_to a r) r.len)
     go more false = omega (arith, more)
 
@@ -138,12 +150,14 @@ is-longer store more (r ∷ rs) h =
     let l = length-append store more in
     (record { some = h.0.some; within = omega (arith, l, h.0.within); numbered = h.0.numbered }, is-longer store more rs h.1)
 
-all-put_run : (store : List ℕ) (after : Option ElemId) (run : Run) (rs : List Run) → IsRun store run → AllByRecursion (IsRun store) rs → AllByRecursion (IsRun store) (put_run after run rs)
+all-put_run : (store : List ℕ) (after : Option ElemId) (run : Run) (rs : List Run) → IsRun store run → AllByRecursion (IsRun store) rs
+    → AllByRecursion (IsRun store) (put_run after run rs)
 all-put_run store None run rs new h = all-pass_runs (IsRun store) run new rs h
 all-put_run store (Some a) run rs new h =
     all-put_at (IsRun store) run new a (λ r k held l. (is-front store (up_to a r) r k (omega arith) (omega (arith, l)), is-back store (up_to a r) r k l)) rs h
 
-order-put_run : (after : Option ElemId) (run : Run) (rs : List Run) → NoneOf run.stamp rs → AllInOrder rs → AllInOrder (put_run after run rs)
+order-put_run : (after : Option ElemId) (run : Run) (rs : List Run) → NoneOf run.stamp rs → AllInOrder rs
+    → AllInOrder (put_run after run rs)
 order-put_run None run rs n h = order-pass_runs run rs n h
 order-put_run (Some a) run rs n h = order-put_at a run rs n h
 
@@ -152,7 +166,9 @@ total-put_run None run rs h = total-pass_runs run rs
 total-put_run (Some a) run rs h = total-put_at a run rs h
 
 -- runs and their store stay well kept, with the bytes of the new run behind those of the others
-pub kept-put_run : (store bytes : List ℕ) (after : Option ElemId) (run : Run) (rs : List Run) → AreKept store rs → NoneOf run.stamp rs → IsThere after rs → 0 < length bytes → run.start ≡ length store → run.len ≡ length bytes → run.first + run.len < 2 ^ 32 → AreKept (store ++ bytes) (put_run after run rs)
+pub kept-put_run : (store bytes : List ℕ) (after : Option ElemId) (run : Run) (rs : List Run) → AreKept store rs → NoneOf run.stamp rs
+    → IsThere after rs → 0 < length bytes → run.start ≡ length store → run.len ≡ length bytes → run.first + run.len < 2 ^ 32
+    → AreKept (store ++ bytes) (put_run after run rs)
 kept-put_run store bytes after run rs h n held some start len numbered =
     let l = length-append store bytes in
     record {

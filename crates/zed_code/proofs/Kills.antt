@@ -28,7 +28,8 @@ spared x r e = misses r.alive (same_stamp r.stamp x.stamp) e
 untouched : (x : ByteRange) (r : Run) → lasts x.stamp x.first r ≡ false → pieces x r ≡ r ∷ []
 untouched x r e = rw (spared x r e) refl
 
-pub cut_from : (x : ByteRange) (rs : List Run) (n : ℕ) → NoneFrom x.stamp x.first (take n rs) → take n rs ++ kill_runs x (drop n rs) ≡ kill_runs x rs
+pub cut_from : (x : ByteRange) (rs : List Run) (n : ℕ) → NoneFrom x.stamp x.first (take n rs)
+    → take n rs ++ kill_runs x (drop n rs) ≡ kill_runs x rs
 cut_from x rs zero none = refl
 cut_from x [] (suc n) none = refl
 cut_from x (r ∷ rs) (suc n) none = rw (untouched x r none.0) (ap (λ qs. r ∷ qs) (cut_from x rs n none.1))
@@ -37,7 +38,8 @@ pub cut_none : (x : ByteRange) (rs : List Run) → NoneFrom x.stamp x.first rs �
 cut_none x [] none = refl
 cut_none x (r ∷ rs) none = rw (untouched x r none.0) (ap (λ qs. r ∷ qs) (cut_none x rs none.1))
 
-pub cut_room : (x : ByteRange) (rs : List Run) (n : ℕ) → n ≤ length rs → NoneFrom x.stamp x.first (take n rs) → n + length (kill_runs x (drop n rs)) ≡ length (kill_runs x rs)
+pub cut_room : (x : ByteRange) (rs : List Run) (n : ℕ) → n ≤ length rs → NoneFrom x.stamp x.first (take n rs)
+    → n + length (kill_runs x (drop n rs)) ≡ length (kill_runs x rs)
 cut_room x rs zero l none = omega arith
 cut_room x [] (suc n) l none = absurd (omega (arith, l))
 cut_room x (r ∷ rs) (suc n) l none =
@@ -107,7 +109,8 @@ order-at (rs ∷ ls) zero h = order-left rs (joined ls) h
 order-at (rs ∷ ls) (suc i) h = order-at ls i (order-right rs (joined ls) h)
 
 -- nothing of a range is behind a run that has its end
-pub reach-touch : (x : ByteRange) (rs qs : List Run) → list_any (reaches x) rs ≡ true → AllInOrder (rs ++ qs) → AllByRecursion (λ r. touches x r ≡ false) qs
+pub reach-touch : (x : ByteRange) (rs qs : List Run) → list_any (reaches x) rs ≡ true → AllInOrder (rs ++ qs)
+    → AllByRecursion (λ r. touches x r ≡ false) qs
 reach-touch x [] qs h ordered = absurd (cc)
 reach-touch x (r ∷ rs) qs h ordered = go (reaches x r) refl h (λ k. reach-touch x rs qs k ordered.1)
   where
@@ -115,7 +118,9 @@ reach-touch x (r ∷ rs) qs h ordered = go (reaches x r) refl h (λ k. reach-tou
     all q [] e k = tt
     all q (p ∷ qs) e k = (beyond x q p e k.0, all q qs e k.1)
 
-    go : (b : Bool) → reaches x r ≡ b → (b || list_any (reaches x) rs) ≡ true → (list_any (reaches x) rs ≡ true → AllByRecursion (λ r. touches x r ≡ false) qs) → AllByRecursion (λ r. touches x r ≡ false) qs
+    go : (b : Bool) → reaches x r ≡ b → (b || list_any (reaches x) rs) ≡ true
+        → (list_any (reaches x) rs ≡ true → AllByRecursion (λ r. touches x r ≡ false) qs)
+        → AllByRecursion (λ r. touches x r ≡ false) qs
     go true e k more = all r qs e (all-right (InOrder r) rs qs ordered.0)
     go false e k more = more k
 
@@ -147,7 +152,8 @@ cut_up_to-first x ls n h = sym (ap (λ qs. qs ++ drop n ls) (lists-before x (tak
     take-on [] (suc n) = refl
     take-on (rs ∷ ls) (suc n) = ap (λ qs. rs ∷ qs) (take-on ls n)
 
-cut_up_to-next : (x : ByteRange) (ls : List (List Run)) (n : ℕ) → n < length ls → set (cut_up_to x n ls) n (kill_runs x (list_at n (cut_up_to x n ls))) ≡ cut_up_to x (n + 1) ls
+cut_up_to-next : (x : ByteRange) (ls : List (List Run)) (n : ℕ) → n < length ls
+    → set (cut_up_to x n ls) n (kill_runs x (list_at n (cut_up_to x n ls))) ≡ cut_up_to x (n + 1) ls
 cut_up_to-next x [] n l = absurd (omega (arith, l))
 cut_up_to-next x (rs ∷ ls) zero l = refl
 cut_up_to-next x (rs ∷ ls) (suc n) l = let e : suc n + 1 ≡ suc (n + 1) = omega arith in rw e (ap (λ qs. kill_runs x rs ∷ qs) (cut_up_to-next x ls n (omega (arith, l))))
@@ -163,9 +169,12 @@ length-cut_up_to x ls zero = refl
 length-cut_up_to x [] (suc n) = refl
 length-cut_up_to x (rs ∷ ls) (suc n) = ap suc (length-cut_up_to x ls n)
 
-pub cut_up_to-end : (x : ByteRange) (ls : List (List Run)) (n : ℕ) → n < length ls → list_any (reaches x) (list_at n ls) ≡ true → AllInOrder (joined ls) → cut_up_to x (n + 1) ls ≡ map (kill_runs x) ls
+pub cut_up_to-end : (x : ByteRange) (ls : List (List Run)) (n : ℕ) → n < length ls → list_any (reaches x) (list_at n ls) ≡ true
+    → AllInOrder (joined ls)
+    → cut_up_to x (n + 1) ls ≡ map (kill_runs x) ls
 cut_up_to-end x [] n l h ordered = absurd (omega (arith, l))
-cut_up_to-end x (rs ∷ ls) zero l h ordered = ap (λ qs. kill_runs x rs ∷ qs) (sym (lists-touched x ls (reach-touch x rs (joined ls) h ordered)))
+cut_up_to-end x (rs ∷ ls) zero l h ordered =
+    ap (λ qs. kill_runs x rs ∷ qs) (sym (lists-touched x ls (reach-touch x rs (joined ls) h ordered)))
 cut_up_to-end x (rs ∷ ls) (suc n) l h ordered = let e : suc n + 1 ≡ suc (n + 1) = omega arith in rw e (ap (λ qs. kill_runs x rs ∷ qs) (cut_up_to-end x ls n (omega (arith, l)) h (order-right rs (joined ls) ordered)))
 
 pub joined-kill : (x : ByteRange) (ls : List (List Run)) → joined (map (kill_runs x) ls) ≡ kill_runs x (joined ls)
@@ -174,19 +183,22 @@ joined-kill x (rs ∷ ls) = ap (λ qs. kill_runs x rs ++ qs) (joined-kill x ls) 
   where
     kill-append : (xs ys : List Run) → kill_runs x (xs ++ ys) ≡ kill_runs x xs ++ kill_runs x ys
     kill-append [] ys = refl
-    kill-append (r ∷ xs) ys = ap (λ qs. pieces x r ++ qs) (kill-append xs ys) ∙ sym (append_assoc (pieces x r) (kill_runs x xs) (kill_runs x ys))
+    kill-append (r ∷ xs) ys =
+        ap (λ qs. pieces x r ++ qs) (kill-append xs ys) ∙ sym (append_assoc (pieces x r) (kill_runs x xs) (kill_runs x ys))
 
 -- hints hold as bytes die
 pieces-none : (x : ByteRange) (s : Stamp) (n : ℕ) (r : Run) → lasts s n r ≡ false → AllByRecursion (λ q. lasts s n q ≡ false) (pieces x r)
 pieces-none x s n r e = all-pieces (λ q. lasts s n q ≡ false) x r e (λ i j l m. (shorter (same_stamp r.stamp s) i j l m e, shorter (same_stamp r.stamp s) i j l m e))
   where
-    shorter : (b : Bool) (i j : ℕ) → i < j → j ≤ r.len → (b && ltb n (r.first + r.len)) ≡ false → (b && ltb n (r.first + i + (j - i))) ≡ false
+    shorter : (b : Bool) (i j : ℕ) → i < j → j ≤ r.len → (b && ltb n (r.first + r.len)) ≡ false
+        → (b && ltb n (r.first + i + (j - i))) ≡ false
     shorter false i j l m h = refl
     shorter true i j l m h = grind (arith)
 
 kill-none : (x : ByteRange) (s : Stamp) (n : ℕ) (rs : List Run) → NoneFrom s n rs → NoneFrom s n (kill_runs x rs)
 kill-none x s n [] h = tt
-kill-none x s n (r ∷ rs) h = all-both (λ q. lasts s n q ≡ false) (pieces x r) (kill_runs x rs) (pieces-none x s n r h.0) (kill-none x s n rs h.1)
+kill-none x s n (r ∷ rs) h =
+    all-both (λ q. lasts s n q ≡ false) (pieces x r) (kill_runs x rs) (pieces-none x s n r h.0) (kill-none x s n rs h.1)
 
 take-map : (x : ByteRange) (ls : List (List Run)) (p : ℕ) → take p (map (kill_runs x) ls) ≡ map (kill_runs x) (take p ls)
 take-map x ls zero = refl
@@ -201,7 +213,8 @@ some-kill x s (r ∷ rs) h = go (same_stamp r.stamp s) refl h (some-kill x s rs)
     left [] ys k = absurd (cc)
     left (q ∷ xs) ys k = either (same_stamp q.stamp s) k (left xs ys)
       where
-        either : (b : Bool) → (b || some_of s xs) ≡ true → (some_of s xs ≡ true → some_of s (xs ++ ys) ≡ true) → (b || some_of s (xs ++ ys)) ≡ true
+        either : (b : Bool) → (b || some_of s xs) ≡ true → (some_of s xs ≡ true → some_of s (xs ++ ys) ≡ true)
+            → (b || some_of s (xs ++ ys)) ≡ true
         either true m more = refl
         either false m more = more m
 
@@ -213,15 +226,19 @@ some-kill x s (r ∷ rs) h = go (same_stamp r.stamp s) refl h (some-kill x s rs)
         either true m = refl
         either false m = m
 
-    piece : (b : Bool) → same_stamp r.stamp s ≡ true → some_of s (cond b (if_any (part 0 (low x r) r) ++ killed (part (low x r) (high x r) r) ∷ if_any (part (high x r) r.len r)) (r ∷ [])) ≡ true
+    piece : (b : Bool) → same_stamp r.stamp s ≡ true
+        → some_of s (cond b (if_any (part 0 (low x r) r) ++ killed (part (low x r) (high x r) r) ∷ if_any (part (high x r) r.len r)) (r ∷ []))
+        ≡ true
     piece true e = right (if_any (part 0 (low x r) r)) (killed (part (low x r) (high x r) r) ∷ if_any (part (high x r) r.len r)) (ap (λ b. b || some_of s (if_any (part (high x r) r.len r))) e)
     piece false e = ap (λ b. b || false) e
 
-    go : (b : Bool) → same_stamp r.stamp s ≡ b → (b || some_of s rs) ≡ true → (some_of s rs ≡ true → some_of s (kill_runs x rs) ≡ true) → some_of s (pieces x r ++ kill_runs x rs) ≡ true
+    go : (b : Bool) → same_stamp r.stamp s ≡ b → (b || some_of s rs) ≡ true → (some_of s rs ≡ true → some_of s (kill_runs x rs) ≡ true)
+        → some_of s (pieces x r ++ kill_runs x rs) ≡ true
     go true e k more = left (pieces x r) (kill_runs x rs) (piece (touches x r) e)
     go false e k more = right (pieces x r) (kill_runs x rs) (more k)
 
-pub kill-hints : (x : ByteRange) (hs : List (ElemId × ℕ)) (places : List ℕ) (ls : List (List Run)) → AreHints hs places ls → AreHints hs places (map (kill_runs x) ls)
+pub kill-hints : (x : ByteRange) (hs : List (ElemId × ℕ)) (places : List ℕ) (ls : List (List Run)) → AreHints hs places ls
+    → AreHints hs places (map (kill_runs x) ls)
 kill-hints x hs places ls are hint one =
     let was = are hint one in
     let N : List Run → Type 0 = λ rs. NoneFrom hint.0.name.stamp hint.0.name.index rs in
@@ -259,7 +276,8 @@ any-next x r rs e = go (reaches x r)
     go false = e
 
 -- behind all blocks
-pub past-end : (ls : List (List Run)) (n : ℕ) → length ls ≤ n → (length (joined (take n ls)) ≡ length (joined ls)) × (length (list_at n ls) ≡ 0)
+pub past-end : (ls : List (List Run)) (n : ℕ) → length ls ≤ n
+    → (length (joined (take n ls)) ≡ length (joined ls)) × (length (list_at n ls) ≡ 0)
 past-end [] zero l = (refl, refl)
 past-end [] (suc n) l = (refl, refl)
 past-end (rs ∷ ls) zero l = absurd (omega (arith, l))
@@ -273,5 +291,7 @@ module _ (x : ByteRange) (bs cs : List Block) (b : ℕ) (e : lists cs ≡ cut_up
   pub blocks-count : length cs ≡ length bs
   blocks-count = let n = ap length e ∙ length-cut_up_to x (lists bs) b in omega (arith, n, length-lists bs, length-lists cs)
 
-  pub block-cut : (ds : List Block) → b < length bs → lists ds ≡ set (lists cs) b (kill_runs x (list_at b (lists cs))) → lists ds ≡ cut_up_to x (b + 1) (lists bs)
-  block-cut ds l h = h ∙ ap (λ qs. set qs b (kill_runs x (list_at b qs))) e ∙ cut_up_to-next x (lists bs) b (omega (arith, l, length-lists bs))
+  pub block-cut : (ds : List Block) → b < length bs → lists ds ≡ set (lists cs) b (kill_runs x (list_at b (lists cs)))
+      → lists ds ≡ cut_up_to x (b + 1) (lists bs)
+  block-cut ds l h =
+      h ∙ ap (λ qs. set qs b (kill_runs x (list_at b qs))) e ∙ cut_up_to-next x (lists bs) b (omega (arith, l, length-lists bs))

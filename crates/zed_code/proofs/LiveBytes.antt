@@ -25,4 +25,6 @@ module _ (store : List ℕ) (bs cs : List Block) (s t : Shown) (k : ℕ) (o : Op
   name-told = ap (λ xs. slice_get (alive_names xs) k) (shown store (runs_of bs) s t e f) ∙ name-is store (runs_of bs) each k ∙ ap name_at is
 
   pub byte-told : slice_get (alive_bytes (elements t)) k ≡ value_at store o
-  byte-told = ap (λ xs. slice_get (alive_bytes xs) k) (shown store (runs_of bs) s t e f) ∙ byte-is store (runs_of bs) each k ∙ ap (value_at store) is
+  byte-told =
+      ap (λ xs. slice_get (alive_bytes xs) k) (shown store (runs_of bs) s t e f) ∙ byte-is store (runs_of bs) each k
+      ∙ ap (value_at store) is

@@ -30,7 +30,8 @@ module _ (X : Type 0) where
   part-none from zero = nil from
   part-none from (suc to) = nil from
 
-  part-append : (from to : ℕ) (xs ys : List X) → drop from (take to (xs ++ ys)) ≡ drop from (take to xs) ++ drop (from - length xs) (take (to - length xs) ys)
+  part-append : (from to : ℕ) (xs ys : List X)
+      → drop from (take to (xs ++ ys)) ≡ drop from (take to xs) ++ drop (from - length xs) (take (to - length xs) ys)
   part-append from to [] ys =
       let a : from ≡ from - 0 = omega arith in
       let b : to ≡ to - 0 = omega arith in
@@ -50,7 +51,8 @@ module _ (X : Type 0) where
       let b : to - length xs ≡ suc to - length (x ∷ xs) = omega arith in
       part-append from to xs ys ∙ ap (λ n. drop from (take to xs) ++ drop n (take (to - length xs) ys)) a ∙ ap (λ n. drop from (take to xs) ++ drop (suc from - length (x ∷ xs)) (take n ys)) b
 
-  pub between-append : (at : Positions) (xs ys : List X) (n : ℕ) → length xs ≡ n → between at (xs ++ ys) ≡ between at xs ++ between (positions_behind n at) ys
+  pub between-append : (at : Positions) (xs ys : List X) (n : ℕ) → length xs ≡ n
+      → between at (xs ++ ys) ≡ between at xs ++ between (positions_behind n at) ys
   between-append at xs ys n e =
       part-append at.from at.to xs ys ∙ ap (λ k. drop at.from (take at.to xs) ++ drop (at.from - k) (take (at.to - k) ys)) e
 
@@ -84,13 +86,15 @@ length-names s n (suc k) = ap suc (length-names s (n + 1) k)
 same-names : (s : Stamp) (a b c d : ℕ) → a ≡ b → c ≡ d → names_from s a c ≡ names_from s b d
 same-names s a b c d e f = ap (λ n. names_from s n c) e ∙ ap (names_from s b) f
 
-pub names-next : (s : Stamp) (n i to : ℕ) → i < to → names_from s (n + i) (to - i) ≡ byte_of s (n + i) ∷ names_from s (n + (i + 1)) (to - (i + 1))
+pub names-next : (s : Stamp) (n i to : ℕ) → i < to
+    → names_from s (n + i) (to - i) ≡ byte_of s (n + i) ∷ names_from s (n + (i + 1)) (to - (i + 1))
 names-next s n i to l =
     let a : to - i ≡ suc (to - (i + 1)) = omega (arith, l) in
     let b : n + i + 1 ≡ n + (i + 1) = omega arith in
     ap (names_from s (n + i)) a ∙ ap (λ m. byte_of s (n + i) ∷ names_from s m (to - (i + 1))) b
 
-part-names : (from to : ℕ) (s : Stamp) (n k : ℕ) → drop from (take to (names_from s n k)) ≡ names_from s (n + min from k) (min to k - min from k)
+part-names : (from to : ℕ) (s : Stamp) (n k : ℕ)
+    → drop from (take to (names_from s n k)) ≡ names_from s (n + min from k) (min to k - min from k)
 part-names from to s n zero =
     let z : 0 ≡ min to zero - min from zero = omega arith in
     part-none ElemId from to ∙ ap (names_from s (n + min from zero)) z
@@ -112,7 +116,8 @@ part-names (suc from) (suc to) s n (suc k) =
 -- ---- the names of live bytes of runs
 
 -- of one run
-pub between-run : (at : Positions) (r : Run) (i j : ℕ) → r.alive ≡ true → i ≡ min at.from r.len → j ≡ min at.to r.len → names_from r.stamp (r.first + i) (j - i) ≡ between at (live_names (r ∷ []))
+pub between-run : (at : Positions) (r : Run) (i j : ℕ) → r.alive ≡ true → i ≡ min at.from r.len → j ≡ min at.to r.len
+    → names_from r.stamp (r.first + i) (j - i) ≡ between at (live_names (r ∷ []))
 between-run at r i j e f g =
     let ids = names_from r.stamp r.first r.len in
     same-names r.stamp (r.first + i) (r.first + min at.from r.len) (j - i) (min at.to r.len - min at.from r.len) (omega (arith, f)) (omega (arith, f, g))
@@ -132,21 +137,28 @@ pub names-append : (xs ys : List Run) → live_names (xs ++ ys) ≡ live_names x
 names-append [] ys = refl
 names-append (r ∷ xs) ys = go r.alive (names-append xs ys)
   where
-    go : (b : Bool) → live_names (xs ++ ys) ≡ live_names xs ++ live_names ys → cond b (names_from r.stamp r.first r.len ++ live_names (xs ++ ys)) (live_names (xs ++ ys)) ≡ cond b (names_from r.stamp r.first r.len ++ live_names xs) (live_names xs) ++ live_names ys
-    go true more = ap (λ zs. names_from r.stamp r.first r.len ++ zs) more ∙ sym (append_assoc (names_from r.stamp r.first r.len) (live_names xs) (live_names ys))
+    go : (b : Bool) → live_names (xs ++ ys) ≡ live_names xs ++ live_names ys
+        → cond b (names_from r.stamp r.first r.len ++ live_names (xs ++ ys)) (live_names (xs ++ ys))
+        ≡ cond b (names_from r.stamp r.first r.len ++ live_names xs) (live_names xs) ++ live_names ys
+    go true more =
+        ap (λ zs. names_from r.stamp r.first r.len ++ zs) more
+        ∙ sym (append_assoc (names_from r.stamp r.first r.len) (live_names xs) (live_names ys))
     go false more = more
 
 pub length-live : (rs : List Run) → length (live_names rs) ≡ live rs
 length-live [] = refl
 length-live (r ∷ rs) = go r.alive (length-live rs)
   where
-    go : (b : Bool) → length (live_names rs) ≡ live rs → length (cond b (names_from r.stamp r.first r.len ++ live_names rs) (live_names rs)) ≡ cond b (r.len + live rs) (live rs)
+    go : (b : Bool) → length (live_names rs) ≡ live rs
+        → length (cond b (names_from r.stamp r.first r.len ++ live_names rs) (live_names rs)) ≡ cond b (r.len + live rs) (live rs)
     go true more = omega (arith, length-append (names_from r.stamp r.first r.len) (live_names rs), length-names r.stamp r.first r.len, more)
     go false more = more
 
 -- what was appended of some runs, and what is to be appended of those behind them
-pub names-on : (at : Positions) (xs ys : List Run) → between at (live_names (xs ++ ys)) ≡ between at (live_names xs) ++ between (positions_behind (live xs) at) (live_names ys)
-names-on at xs ys = ap (between at) (names-append xs ys) ∙ between-append ElemId at (live_names xs) (live_names ys) (live xs) (length-live xs)
+pub names-on : (at : Positions) (xs ys : List Run)
+    → between at (live_names (xs ++ ys)) ≡ between at (live_names xs) ++ between (positions_behind (live xs) at) (live_names ys)
+names-on at xs ys =
+    ap (between at) (names-append xs ys) ∙ between-append ElemId at (live_names xs) (live_names ys) (live xs) (length-live xs)
 
 ids-run : (s : Stamp) (n : ℕ) (bs : List ℕ) → map (λ x. x.id) (run_of s true n bs) ≡ names_from s n (length bs)
 ids-run s n [] = refl
@@ -156,7 +168,8 @@ pub names-shown : (store : List ℕ) (rs : List Run) → AllByRecursion (IsRun s
 names-shown store [] h = refl
 names-shown store (r ∷ rs) h = go r.alive refl (names-shown store rs h.1)
   where
-    go : (b : Bool) → r.alive ≡ b → alive_names (spelled store rs) ≡ live_names rs → alive_names (spelled store (r ∷ rs)) ≡ cond r.alive (names_from r.stamp r.first r.len ++ live_names rs) (live_names rs)
+    go : (b : Bool) → r.alive ≡ b → alive_names (spelled store rs) ≡ live_names rs
+        → alive_names (spelled store (r ∷ rs)) ≡ cond r.alive (names_from r.stamp r.first r.len ++ live_names rs) (live_names rs)
     go true e more =
         let ids = names_from r.stamp r.first r.len in
         rw e (ap (map (λ x. x.id)) (alive-run r.stamp r.first (bytes_in store r) (spelled store rs))

@@ -38,14 +38,19 @@ module _ (a : ElemId) (r : Run) where
   behind-at [] qs l e = absurd (omega (arith, l))
   behind-at (q ∷ rs) qs l e = go (λ m f. behind-at rs qs m f) (has a q) l e
     where
-      go : (found a rs < length rs → drop (found a rs) rs ≡ r ∷ qs → behind a rs ≡ cond (ltb (up_to a r) r.len) [] qs) → (b : Bool) → cond b 0 (suc (found a rs)) < suc (length rs) → drop (cond b 0 (suc (found a rs))) (q ∷ rs) ≡ r ∷ qs → cond b (cond (ltb (up_to a q) q.len) [] rs) (behind a rs) ≡ cond (ltb (up_to a r) r.len) [] qs
-      go more true l e = ap (λ (x : Run). cond (ltb (up_to a x) x.len) [] rs) (ap first e) ∙ ap (λ xs. cond (ltb (up_to a r) r.len) [] xs) (ap rest e)
+      go : (found a rs < length rs → drop (found a rs) rs ≡ r ∷ qs → behind a rs ≡ cond (ltb (up_to a r) r.len) [] qs) → (b : Bool)
+          → cond b 0 (suc (found a rs)) < suc (length rs) → drop (cond b 0 (suc (found a rs))) (q ∷ rs) ≡ r ∷ qs
+          → cond b (cond (ltb (up_to a q) q.len) [] rs) (behind a rs) ≡ cond (ltb (up_to a r) r.len) [] qs
+      go more true l e =
+          ap (λ (x : Run). cond (ltb (up_to a x) x.len) [] rs) (ap first e) ∙ ap (λ xs. cond (ltb (up_to a r) r.len) [] xs) (ap rest e)
       go more false l e = more (omega (arith, l)) e
 
-  pub behind-inside : (rs qs : List Run) → found a rs < length rs → drop (found a rs) rs ≡ r ∷ qs → ltb (up_to a r) r.len ≡ true → behind a rs ≡ []
+  pub behind-inside : (rs qs : List Run) → found a rs < length rs → drop (found a rs) rs ≡ r ∷ qs → ltb (up_to a r) r.len ≡ true
+      → behind a rs ≡ []
   behind-inside rs qs l e c = behind-at rs qs l e ∙ ap (λ b. cond b [] qs) c
 
-  pub behind-whole : (rs qs : List Run) → found a rs < length rs → drop (found a rs) rs ≡ r ∷ qs → ltb (up_to a r) r.len ≡ false → behind a rs ≡ qs
+  pub behind-whole : (rs qs : List Run) → found a rs < length rs → drop (found a rs) rs ≡ r ∷ qs → ltb (up_to a r) r.len ≡ false
+      → behind a rs ≡ qs
   behind-whole rs qs l e c = behind-at rs qs l e ∙ ap (λ b. cond b [] qs) c
 
 -- the runs behind the first of some
@@ -67,9 +72,11 @@ module _ (store : List ℕ) where
   later-pieces s (r ∷ rs) = ap (λ n. cond (before s r.stamp) (suc n) 0) (later-pieces s rs)
 
   has-piece : (a : ElemId) (r : Run) → IsRun store r → looks.has a (piece_in store r) ≡ has a r
-  has-piece a r h = ap (λ n. same_stamp r.stamp a.name.stamp && (leb r.first a.name.index && ltb a.name.index (r.first + n))) (bytes-count store r h)
+  has-piece a r h =
+      ap (λ n. same_stamp r.stamp a.name.stamp && (leb r.first a.name.index && ltb a.name.index (r.first + n))) (bytes-count store r h)
 
-  behind-pieces : (a : ElemId) (rs : List Run) → AllByRecursion (IsRun store) rs → looks.behind a (map (piece_in store) rs) ≡ map (piece_in store) (behind a rs)
+  behind-pieces : (a : ElemId) (rs : List Run) → AllByRecursion (IsRun store) rs
+      → looks.behind a (map (piece_in store) rs) ≡ map (piece_in store) (behind a rs)
   behind-pieces a [] each = refl
   behind-pieces a (r ∷ rs) each =
       ap (λ b. cond b (cond (ltb (suc (a.name.index - r.first)) (length (bytes_in store r))) [] (map (piece_in store) rs)) (looks.behind a (map (piece_in store) rs))) (has-piece a r each.0)
@@ -77,22 +84,28 @@ module _ (store : List ℕ) where
       ∙ ap (λ ps. cond (has a r) (cond (ltb (up_to a r) r.len) [] (map (piece_in store) rs)) ps) (behind-pieces a rs each.1)
       ∙ go (has a r) (ltb (up_to a r) r.len)
     where
-      go : (b c : Bool) → cond b (cond c [] (map (piece_in store) rs)) (map (piece_in store) (behind a rs)) ≡ map (piece_in store) (cond b (cond c [] rs) (behind a rs))
+      go : (b c : Bool)
+          → cond b (cond c [] (map (piece_in store) rs)) (map (piece_in store) (behind a rs))
+          ≡ map (piece_in store) (cond b (cond c [] rs) (behind a rs))
       go true true = refl
       go true false = refl
       go false c = refl
 
-  passed-pieces : (after : Option ElemId) (s : Stamp) (rs : List Run) → AllByRecursion (IsRun store) rs → looks.passed after s (map (piece_in store) rs) ≡ passed_after after s rs
+  passed-pieces : (after : Option ElemId) (s : Stamp) (rs : List Run) → AllByRecursion (IsRun store) rs
+      → looks.passed after s (map (piece_in store) rs) ≡ passed_after after s rs
   passed-pieces None s rs each = later-pieces s rs
   passed-pieces (Some a) s rs each = ap (looks.later s) (behind-pieces a rs each) ∙ later-pieces s (behind a rs)
 
-  pub looks-to-insert : (after : Option ElemId) (s : Stamp) (rs : List Run) → AllByRecursion (IsRun store) rs → looks.looks_to_insert after s (map (piece_in store) rs) ≡ looks_to_put after s rs
+  pub looks-to-insert : (after : Option ElemId) (s : Stamp) (rs : List Run) → AllByRecursion (IsRun store) rs
+      → looks.looks_to_insert after s (map (piece_in store) rs) ≡ looks_to_put after s rs
   looks-to-insert after s rs each = omega (arith, passed-pieces after s rs each, length-map rs (piece_in store))
 
   changed-piece : (x : ByteRange) (r : Run) → IsRun store r → looks.is_changed x (piece_in store r) ≡ touches x r
-  changed-piece x r h = ap (λ n. r.alive && (same_stamp r.stamp x.stamp && ltb (x.first - r.first) (min n (suc x.last - r.first)))) (bytes-count store r h)
+  changed-piece x r h =
+      ap (λ n. r.alive && (same_stamp r.stamp x.stamp && ltb (x.first - r.first) (min n (suc x.last - r.first)))) (bytes-count store r h)
 
-  pub looks-to-delete : (x : ByteRange) (rs : List Run) → AllByRecursion (IsRun store) rs → looks.looks_to_delete x (map (piece_in store) rs) ≡ touched x rs
+  pub looks-to-delete : (x : ByteRange) (rs : List Run) → AllByRecursion (IsRun store) rs
+      → looks.looks_to_delete x (map (piece_in store) rs) ≡ touched x rs
   looks-to-delete x [] each = refl
   looks-to-delete x (r ∷ rs) each =
       let p = sum_by-cons (λ q. cond (looks.is_changed x q) 1 0) (piece_in store r) (map (piece_in store) rs) in

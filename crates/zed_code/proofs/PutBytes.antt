@@ -28,7 +28,9 @@ pub cutting_spells : (store : List ℕ) (rs : List Run) → written_out (map (pi
 cutting_spells store rs = spelled-cutting store rs
 
 -- a byte that no run has isn't in the text
-none-here : (a : ElemId) (r : Stamp) (alive : Bool) (n : ℕ) (bs : List ℕ) (rest : List TextByte) → (same_stamp r a.name.stamp && (leb n a.name.index && ltb a.name.index (n + length bs))) ≡ false → list_any (λ x. same_element x.id a) (run_of r alive n bs ++ rest) ≡ list_any (λ x. same_element x.id a) rest
+none-here : (a : ElemId) (r : Stamp) (alive : Bool) (n : ℕ) (bs : List ℕ) (rest : List TextByte)
+    → (same_stamp r a.name.stamp && (leb n a.name.index && ltb a.name.index (n + length bs))) ≡ false
+    → list_any (λ x. same_element x.id a) (run_of r alive n bs ++ rest) ≡ list_any (λ x. same_element x.id a) rest
 none-here a r alive n [] rest h = refl
 none-here a r alive n (b ∷ bs) rest h = rw (first (same_stamp r a.name.stamp) n a.name.index (length bs) h) (none-here a r alive (n + 1) bs rest (more (same_stamp r a.name.stamp) n a.name.index (length bs) h))
   where
@@ -41,52 +43,68 @@ none-here a r alive n (b ∷ bs) rest h = rw (first (same_stamp r a.name.stamp) 
     more true n i l h = grind (arith)
 
 -- a byte that a run has is in the text
-some-here : (a : ElemId) (r : Stamp) (alive : Bool) (n : ℕ) (bs : List ℕ) (rest : List TextByte) → (same_stamp r a.name.stamp && (leb n a.name.index && ltb a.name.index (n + length bs))) ≡ true → list_any (λ x. same_element x.id a) (run_of r alive n bs ++ rest) ≡ true
+some-here : (a : ElemId) (r : Stamp) (alive : Bool) (n : ℕ) (bs : List ℕ) (rest : List TextByte)
+    → (same_stamp r a.name.stamp && (leb n a.name.index && ltb a.name.index (n + length bs))) ≡ true
+    → list_any (λ x. same_element x.id a) (run_of r alive n bs ++ rest) ≡ true
 some-here a r alive n [] rest h = absurd (none (same_stamp r a.name.stamp) n a.name.index h)
   where
     none : (s : Bool) (n i : ℕ) → (s && (leb n i && ltb i (n + 0))) ≡ true → ⊥
     none false n i k = absurd (cc)
     none true n i k = grind (arith)
-some-here a r alive n (b ∷ bs) rest h = go (λ k. some-here a r alive (n + 1) bs rest k) (same_stamp r a.name.stamp && eqb n a.name.index) refl
+some-here a r alive n (b ∷ bs) rest h =
+    go (λ k. some-here a r alive (n + 1) bs rest k) (same_stamp r a.name.stamp && eqb n a.name.index) refl
   where
-    more : (s : Bool) (n i l : ℕ) → (s && (leb n i && ltb i (n + suc l))) ≡ true → (s && eqb n i) ≡ false → (s && (leb (n + 1) i && ltb i (n + 1 + l))) ≡ true
+    more : (s : Bool) (n i l : ℕ) → (s && (leb n i && ltb i (n + suc l))) ≡ true → (s && eqb n i) ≡ false
+        → (s && (leb (n + 1) i && ltb i (n + 1 + l))) ≡ true
     more false n i l k e = absurd (cc)
     more true n i l k e = grind (arith)
 
     go : ((same_stamp r a.name.stamp && (leb (n + 1) a.name.index && ltb a.name.index (n + 1 + length bs))) ≡ true → list_any (λ x. same_element x.id a) (run_of r alive (n + 1) bs ++ rest) ≡ true)
-        → (v : Bool) → (same_stamp r a.name.stamp && eqb n a.name.index) ≡ v → list_any (λ x. same_element x.id a) (run_of r alive n (b ∷ bs) ++ rest) ≡ true
+        → (v : Bool) → (same_stamp r a.name.stamp && eqb n a.name.index) ≡ v
+        → list_any (λ x. same_element x.id a) (run_of r alive n (b ∷ bs) ++ rest) ≡ true
     go behind true e = rw e refl
     go behind false e = rw e (behind (more (same_stamp r a.name.stamp) n a.name.index (length bs) h e))
 
 -- what runs spell has a byte just where one of them has it
-pub spelled-has : (store : List ℕ) (a : ElemId) (rs : List Run) → AllByRecursion (IsRun store) rs → list_any (λ x. same_element x.id a) (spelled store rs) ≡ list_any (has a) rs
+pub spelled-has : (store : List ℕ) (a : ElemId) (rs : List Run) → AllByRecursion (IsRun store) rs
+    → list_any (λ x. same_element x.id a) (spelled store rs) ≡ list_any (has a) rs
 spelled-has store a [] each = refl
 spelled-has store a (r ∷ rs) each = go (spelled-has store a rs each.1) (has a r) refl
   where
-    go : list_any (λ x. same_element x.id a) (spelled store rs) ≡ list_any (has a) rs → (b : Bool) → has a r ≡ b → list_any (λ x. same_element x.id a) (spelled store (r ∷ rs)) ≡ list_any (has a) (r ∷ rs)
+    go : list_any (λ x. same_element x.id a) (spelled store rs) ≡ list_any (has a) rs → (b : Bool) → has a r ≡ b
+        → list_any (λ x. same_element x.id a) (spelled store (r ∷ rs)) ≡ list_any (has a) (r ∷ rs)
     go more true b = rw b (some-here a r.stamp r.alive r.first (bytes_in store r) (spelled store rs) (rw (bytes-count store r each.0) b))
-    go more false b = rw b (none-here a r.stamp r.alive r.first (bytes_in store r) (spelled store rs) (rw (bytes-count store r each.0) b) ∙ more)
+    go more false b =
+        rw b (none-here a r.stamp r.alive r.first (bytes_in store r) (spelled store rs) (rw (bytes-count store r each.0) b) ∙ more)
 
-held-there : (store : List ℕ) (a : ElemId) (rs : List Run) → AllByRecursion (IsRun store) rs → list_any (λ x. same_element x.id a) (spelled store rs) ≡ true → found a rs < length rs
+held-there : (store : List ℕ) (a : ElemId) (rs : List Run) → AllByRecursion (IsRun store) rs
+    → list_any (λ x. same_element x.id a) (spelled store rs) ≡ true
+    → found a rs < length rs
 held-there store a [] each h = absurd (cc)
 held-there store a (r ∷ rs) each h = go (λ k. held-there store a rs each.1 k) (has a r) refl
   where
-    go : (list_any (λ x. same_element x.id a) (spelled store rs) ≡ true → found a rs < length rs) → (b : Bool) → has a r ≡ b → cond b 0 (suc (found a rs)) < suc (length rs)
+    go : (list_any (λ x. same_element x.id a) (spelled store rs) ≡ true → found a rs < length rs) → (b : Bool) → has a r ≡ b
+        → cond b 0 (suc (found a rs)) < suc (length rs)
     go more true b = omega arith
     go more false b =
         let n = none-here a r.stamp r.alive r.first (bytes_in store r) (spelled store rs) (rw (bytes-count store r each.0) b) in
         omega (arith, more (sym n ∙ h))
 
-held-after : (store : List ℕ) (after : Option ElemId) (s : Stamp) (rs : List Run) → AllByRecursion (IsRun store) rs → StandsAfter after s (spelled store rs) → IsThere after rs
+held-after : (store : List ℕ) (after : Option ElemId) (s : Stamp) (rs : List Run) → AllByRecursion (IsRun store) rs
+    → StandsAfter after s (spelled store rs)
+    → IsThere after rs
 held-after store None s rs each h = tt
 held-after store (Some a) s rs each h = held-there store a rs each h.1
 
 -- no run has a stamp that no element has
-first-stamp : (s r : Stamp) (alive : Bool) (n : ℕ) (bs : List ℕ) (rest : List TextByte) → 0 < length bs → IsNewStamp s (run_of r alive n bs ++ rest) → same_stamp r s ≡ false
+first-stamp : (s r : Stamp) (alive : Bool) (n : ℕ) (bs : List ℕ) (rest : List TextByte) → 0 < length bs
+    → IsNewStamp s (run_of r alive n bs ++ rest)
+    → same_stamp r s ≡ false
 first-stamp s r alive n [] rest l h = absurd (omega (arith, l))
 first-stamp s r alive n (b ∷ bs) rest l h = h.0
 
-rest-new : (s r : Stamp) (alive : Bool) (n : ℕ) (bs : List ℕ) (rest : List TextByte) → IsNewStamp s (run_of r alive n bs ++ rest) → IsNewStamp s rest
+rest-new : (s r : Stamp) (alive : Bool) (n : ℕ) (bs : List ℕ) (rest : List TextByte) → IsNewStamp s (run_of r alive n bs ++ rest)
+    → IsNewStamp s rest
 rest-new s r alive n [] rest h = h
 rest-new s r alive n (b ∷ bs) rest h = rest-new s r alive (n + 1) bs rest h.1
 
@@ -112,10 +130,13 @@ new-bytes : (store bytes : List ℕ) (run : Run) → run.start ≡ length store 
 new-bytes store bytes run s l =
     ap (take run.len) (drop_at store bytes run.start (sym s)) ∙ take_all run.len bytes (omega (arith, l))
 
-new-elements : (store bytes : List ℕ) (run : Run) → run.start ≡ length store → run.len ≡ length bytes → run.first ≡ 0 → run.alive ≡ true → elements_in (store ++ bytes) run ≡ run_from run.stamp 0 bytes
+new-elements : (store bytes : List ℕ) (run : Run) → run.start ≡ length store → run.len ≡ length bytes → run.first ≡ 0 → run.alive ≡ true
+    → elements_in (store ++ bytes) run ≡ run_from run.stamp 0 bytes
 new-elements store bytes run s l f a = rw (new-bytes store bytes run s l, f, a) (sym (run_from-is run.stamp 0 bytes))
 
-spelled-put_run : (store : List ℕ) (after : Option ElemId) (run : Run) (rs : List Run) (xs : List TextByte) → AllByRecursion (IsRun store) rs → StandsAfter after run.stamp xs → spelled store (put_run after run rs) ≡ put_late after run.stamp (elements_in store run) (spelled store rs)
+spelled-put_run : (store : List ℕ) (after : Option ElemId) (run : Run) (rs : List Run) (xs : List TextByte)
+    → AllByRecursion (IsRun store) rs → StandsAfter after run.stamp xs
+    → spelled store (put_run after run rs) ≡ put_late after run.stamp (elements_in store run) (spelled store rs)
 spelled-put_run store None run rs xs each h = spelled-pass_runs store run rs each
 spelled-put_run store (Some a) run rs xs each h = spelled-put_at store a run rs each h.0
 
@@ -128,7 +149,9 @@ pub shown : (store : List ℕ) (rs : List Run) (s t : Shown) → s.cutting ≡ m
 shown store rs s t e f = ap elements (sym f) ∙ ap written_out e ∙ spelled-cutting store rs
 
 -- the runs that were made are those with the new run
-pub put-made : (store bytes : List ℕ) (after : Option ElemId) (s : Stamp) (rs news : List Run) (run : Run) (n : ℕ) → run ≡ whole s n (length bytes) → n ≡ length store → news ≡ put_run after run rs → news ≡ put_run after (new_run s store (length bytes)) rs
+pub put-made : (store bytes : List ℕ) (after : Option ElemId) (s : Stamp) (rs news : List Run) (run : Run) (n : ℕ)
+    → run ≡ whole s n (length bytes) → n ≡ length store → news ≡ put_run after run rs
+    → news ≡ put_run after (new_run s store (length bytes)) rs
 put-made store bytes after s rs news run n e f made = made ∙ rw (e, f) refl
 
 -- what an insertion finds in a text, and what it makes of it
@@ -139,18 +162,21 @@ module _ (store bytes : List ℕ) (after : Option ElemId) (s : Stamp) (rs : List
   pub none-yet : IsNewStamp s (elements t) → NoneOf s rs
   none-yet new = none-of store s rs h.each (let P : List TextByte → Type 0 = λ xs. IsNewStamp s xs in subst P v new)
 
-  pub put-spells : StandsAfter after s (elements t) → spelled (store ++ bytes) (put_run after (new_run s store (length bytes)) rs) ≡ put_late after s (run_from s 0 bytes) (elements t)
+  pub put-spells : StandsAfter after s (elements t)
+      → spelled (store ++ bytes) (put_run after (new_run s store (length bytes)) rs) ≡ put_late after s (run_from s 0 bytes) (elements t)
   put-spells there =
       let run = new_run s store (length bytes) in
       spelled-put_run (store ++ bytes) after run rs (elements t) (is-longer store bytes rs h.each) there
       ∙ rw (new-elements store bytes run refl refl refl refl, spelled-longer store bytes rs h.each) refl
       ∙ ap (put_late after s (run_from s 0 bytes)) (sym v)
 
-  pub put-keeps : StandsAfter after s (elements t) → IsNewStamp s (elements t) → 0 < length bytes → length bytes ≤ 32767 → AreKept (store ++ bytes) (put_run after (new_run s store (length bytes)) rs)
+  pub put-keeps : StandsAfter after s (elements t) → IsNewStamp s (elements t) → 0 < length bytes → length bytes ≤ 32767
+      → AreKept (store ++ bytes) (put_run after (new_run s store (length bytes)) rs)
   put-keeps there new some most =
       kept-put_run store bytes after (new_run s store (length bytes)) rs h (none-yet new) (names-there there) some refl refl (omega (arith, most))
 
-pub put-more : (store bytes : List ℕ) (after : Option ElemId) (run : Run) (rs : List Run) → length (map (piece_in (store ++ bytes)) (put_run after run rs)) ≤ length (map (piece_in store) rs) + 2
+pub put-more : (store bytes : List ℕ) (after : Option ElemId) (run : Run) (rs : List Run)
+    → length (map (piece_in (store ++ bytes)) (put_run after run rs)) ≤ length (map (piece_in store) rs) + 2
 put-more store bytes after run rs = rw (length-map, length-map) (length-put_run after run rs)
 
 -- a text with one run, and one with none

@@ -16,7 +16,8 @@ put_in-whole (suc i) n run [] e l = absurd (omega (arith, l))
 put_in-whole zero n run (r ∷ rs) e l = rw e refl
 put_in-whole (suc i) n run (r ∷ rs) e l = ap (λ xs. r ∷ xs) (put_in-whole i n run rs e (omega (arith, l)))
 
-pub put_in-cut : (i n : ℕ) (run : Run) (rs : List Run) (r : Run) → i < length rs → r ≡ get_or rs i r → ltb 0 n ≡ true → insert (insert (set rs i (front n r)) (suc i) (back n r)) (suc i) run ≡ put_in i n run rs
+pub put_in-cut : (i n : ℕ) (run : Run) (rs : List Run) (r : Run) → i < length rs → r ≡ get_or rs i r → ltb 0 n ≡ true
+    → insert (insert (set rs i (front n r)) (suc i) (back n r)) (suc i) run ≡ put_in i n run rs
 put_in-cut i n run [] r l e c = absurd (omega (arith, l))
 put_in-cut zero n run (q ∷ rs) r l e c = ap (λ (x : Run). front n x ∷ run ∷ back n x ∷ rs) e ∙ rw c refl
 put_in-cut (suc i) n run (q ∷ rs) r l e c = ap (λ xs. q ∷ xs) (put_in-cut i n run rs r (omega (arith, l)) e c)
@@ -31,17 +32,21 @@ put_in-within [] (z ∷ zs) zero n run l = let e : n ≡ 0 = omega (arith, l) in
 put_in-within [] zs (suc i) n run l = absurd (omega (arith, l))
 put_in-within (y ∷ ys) zs zero n run l = go (ltb 0 n)
   where
-    go : (b : Bool) → cond b (front n y ∷ run ∷ back n y ∷ (ys ++ zs)) (run ∷ y ∷ (ys ++ zs)) ≡ cond b (front n y ∷ run ∷ back n y ∷ ys) (run ∷ y ∷ ys) ++ zs
+    go : (b : Bool)
+        → cond b (front n y ∷ run ∷ back n y ∷ (ys ++ zs)) (run ∷ y ∷ (ys ++ zs))
+        ≡ cond b (front n y ∷ run ∷ back n y ∷ ys) (run ∷ y ∷ ys) ++ zs
     go true = refl
     go false = refl
 put_in-within (y ∷ ys) zs (suc i) n run l = ap (λ xs. y ∷ xs) (put_in-within ys zs i n run (omega (arith, l)))
 
-pub joined-set : (ls : List (List Run)) (i : ℕ) (xs : List Run) → i < length ls → joined (set ls i xs) ≡ joined (take i ls) ++ (xs ++ joined (drop (i + 1) ls))
+pub joined-set : (ls : List (List Run)) (i : ℕ) (xs : List Run) → i < length ls
+    → joined (set ls i xs) ≡ joined (take i ls) ++ (xs ++ joined (drop (i + 1) ls))
 joined-set [] i xs l = absurd (omega (arith, l))
 joined-set (rs ∷ ls) zero xs l = refl
 joined-set (rs ∷ ls) (suc i) xs l = let e : suc i + 1 ≡ suc (i + 1) = omega arith in rw e (ap (λ ys. rs ++ ys) (joined-set ls i xs (omega (arith, l))) ∙ sym (append_assoc rs (joined (take i ls)) (xs ++ joined (drop (i + 1) ls))))
 
-pub put-joined : (at : Spot) (n : ℕ) (run : Run) (ls : List (List Run)) → IsIn at (min n 1) ls → joined (set ls at.block (put_in at.place n run (list_at at.block ls))) ≡ put_in (before_spot at ls) n run (joined ls)
+pub put-joined : (at : Spot) (n : ℕ) (run : Run) (ls : List (List Run)) → IsIn at (min n 1) ls
+    → joined (set ls at.block (put_in at.place n run (list_at at.block ls))) ≡ put_in (before_spot at ls) n run (joined ls)
 put-joined at n run ls h =
     joined-set ls at.block (put_in at.place n run (list_at at.block ls)) h.block
     ∙ ap (λ xs. joined (take at.block ls) ++ xs) (sym (put_in-within (list_at at.block ls) (joined (drop (at.block + 1) ls)) at.place n run h.place))
@@ -77,13 +82,15 @@ pub put_in-passed : (run : Run) (rs : List Run) → put_in (passed run.stamp rs)
 put_in-passed run [] = refl
 put_in-passed run (r ∷ rs) = go (put_in-passed run rs) (before run.stamp r.stamp)
   where
-    go : put_in (passed run.stamp rs) 0 run rs ≡ pass_runs run rs → (b : Bool) → put_in (cond b (suc (passed run.stamp rs)) 0) 0 run (r ∷ rs) ≡ cond b (r ∷ pass_runs run rs) (run ∷ r ∷ rs)
+    go : put_in (passed run.stamp rs) 0 run rs ≡ pass_runs run rs → (b : Bool)
+        → put_in (cond b (suc (passed run.stamp rs)) 0) 0 run (r ∷ rs) ≡ cond b (r ∷ pass_runs run rs) (run ∷ r ∷ rs)
     go more true = ap (λ xs. r ∷ xs) more
     go more false = refl
 
 -- and one that goes behind a byte within a run, or behind all the run
 module _ (a : ElemId) (run r : Run) where
-  pub put_in-inside : (rs qs : List Run) → found a rs < length rs → drop (found a rs) rs ≡ r ∷ qs → ltb (up_to a r) r.len ≡ true → put_in (found a rs) (up_to a r) run rs ≡ put_at a run rs
+  pub put_in-inside : (rs qs : List Run) → found a rs < length rs → drop (found a rs) rs ≡ r ∷ qs → ltb (up_to a r) r.len ≡ true
+      → put_in (found a rs) (up_to a r) run rs ≡ put_at a run rs
   put_in-inside [] qs l e c = absurd (omega (arith, l))
   put_in-inside (q ∷ rs) qs l e c = go (λ m f. put_in-inside rs qs m f c) (has a q) refl l e
     where
@@ -91,7 +98,9 @@ module _ (a : ElemId) (run r : Run) where
       first [] = r
       first (x ∷ xs) = x
 
-      go : (found a rs < length rs → drop (found a rs) rs ≡ r ∷ qs → put_in (found a rs) (up_to a r) run rs ≡ put_at a run rs) → (b : Bool) → has a q ≡ b → cond b 0 (suc (found a rs)) < suc (length rs) → drop (cond b 0 (suc (found a rs))) (q ∷ rs) ≡ r ∷ qs → put_in (cond b 0 (suc (found a rs))) (up_to a r) run (q ∷ rs) ≡ cond b (put_behind a run q rs) (q ∷ put_at a run rs)
+      go : (found a rs < length rs → drop (found a rs) rs ≡ r ∷ qs → put_in (found a rs) (up_to a r) run rs ≡ put_at a run rs) → (b : Bool)
+          → has a q ≡ b → cond b 0 (suc (found a rs)) < suc (length rs) → drop (cond b 0 (suc (found a rs))) (q ∷ rs) ≡ r ∷ qs
+          → put_in (cond b 0 (suc (found a rs))) (up_to a r) run (q ∷ rs) ≡ cond b (put_behind a run q rs) (q ∷ put_at a run rs)
       go more true b l e =
           let f : q ≡ r = ap first e in
           let some : ltb 0 (up_to a r) ≡ true = grind (arith) in
@@ -99,7 +108,9 @@ module _ (a : ElemId) (run r : Run) where
           rw (cut, some) (ap (λ (x : Run). front (up_to a x) q ∷ run ∷ back (up_to a x) q ∷ rs) (sym f))
       go more false b l e = ap (λ xs. q ∷ xs) (more (omega (arith, l)) e)
 
-  pub put_in-behind : (rs qs : List Run) (j : ℕ) → found a rs < length rs → drop (found a rs) rs ≡ r ∷ qs → ltb (up_to a r) r.len ≡ false → j ≡ suc (found a rs + passed run.stamp (drop (suc (found a rs)) rs)) → put_in j 0 run rs ≡ put_at a run rs
+  pub put_in-behind : (rs qs : List Run) (j : ℕ) → found a rs < length rs → drop (found a rs) rs ≡ r ∷ qs → ltb (up_to a r) r.len ≡ false
+      → j ≡ suc (found a rs + passed run.stamp (drop (suc (found a rs)) rs))
+      → put_in j 0 run rs ≡ put_at a run rs
   put_in-behind [] qs j l e c p = absurd (omega (arith, l))
   put_in-behind (q ∷ rs) qs zero l e c p = absurd (omega (arith, p))
   put_in-behind (q ∷ rs) qs (suc j) l e c p = go j (λ k m f g. put_in-behind rs qs k m f c g) (has a q) refl l e p
@@ -108,7 +119,11 @@ module _ (a : ElemId) (run r : Run) where
       first [] = r
       first (x ∷ xs) = x
 
-      go : (j : ℕ) → ((k : ℕ) → found a rs < length rs → drop (found a rs) rs ≡ r ∷ qs → k ≡ suc (found a rs + passed run.stamp (drop (suc (found a rs)) rs)) → put_in k 0 run rs ≡ put_at a run rs) → (b : Bool) → has a q ≡ b → cond b 0 (suc (found a rs)) < suc (length rs) → drop (cond b 0 (suc (found a rs))) (q ∷ rs) ≡ r ∷ qs → suc j ≡ suc (cond b 0 (suc (found a rs)) + passed run.stamp (drop (suc (cond b 0 (suc (found a rs)))) (q ∷ rs))) → q ∷ put_in j 0 run rs ≡ cond b (put_behind a run q rs) (q ∷ put_at a run rs)
+      go : (j : ℕ)
+          → ((k : ℕ) → found a rs < length rs → drop (found a rs) rs ≡ r ∷ qs → k ≡ suc (found a rs + passed run.stamp (drop (suc (found a rs)) rs)) → put_in k 0 run rs ≡ put_at a run rs)
+          → (b : Bool) → has a q ≡ b → cond b 0 (suc (found a rs)) < suc (length rs) → drop (cond b 0 (suc (found a rs))) (q ∷ rs) ≡ r ∷ qs
+          → suc j ≡ suc (cond b 0 (suc (found a rs)) + passed run.stamp (drop (suc (cond b 0 (suc (found a rs)))) (q ∷ rs)))
+          → q ∷ put_in j 0 run rs ≡ cond b (put_behind a run q rs) (q ∷ put_at a run rs)
       go j more true b l e p =
           let f : q ≡ r = ap first e in
           let whole : ltb (up_to a q) q.len ≡ false = ap (λ (x : Run). ltb (up_to a x) x.len) f ∙ c in

@@ -68,18 +68,22 @@ touched-empty x (r ∷ rs) l = let e : cond (touches x r) 1 0 ≡ 0 = ap one (mi
 
 -- ---- over blocks
 
-pub blocks-from : (x : ByteRange) (ls : List (List Run)) (b : ℕ) → NoneFrom x.stamp x.first (joined (take b ls)) → touched x (joined ls) ≡ touched x (joined (drop b ls))
+pub blocks-from : (x : ByteRange) (ls : List (List Run)) (b : ℕ) → NoneFrom x.stamp x.first (joined (take b ls))
+    → touched x (joined ls) ≡ touched x (joined (drop b ls))
 blocks-from x ls b none =
     let cut = ap (touched x) (joined-cut ls b) in
     omega (arith, cut, touched-append x (joined (take b ls)) (joined (drop b ls)), touched-front x (joined (take b ls)) none)
 
-pub blocks-next : (x : ByteRange) (ls : List (List Run)) (b : ℕ) → b < length ls → touched x (joined (drop b ls)) ≡ touched x (list_at b ls) + touched x (joined (drop (b + 1) ls))
+pub blocks-next : (x : ByteRange) (ls : List (List Run)) (b : ℕ) → b < length ls
+    → touched x (joined (drop b ls)) ≡ touched x (list_at b ls) + touched x (joined (drop (b + 1) ls))
 blocks-next x ls b l = ap (touched x) (joined-drop ls b l) ∙ touched-append x (list_at b ls) (joined (drop (b + 1) ls))
 
 pub blocks-past : (x : ByteRange) (ls : List (List Run)) (b : ℕ) → length ls ≤ b → touched x (joined (drop b ls)) ≡ 0
 blocks-past x ls b l = ap (touched x) (drop-none ls b l)
 
-pub blocks-done : (x : ByteRange) (ls : List (List Run)) (b : ℕ) → b < length ls → list_any (reaches x) (list_at b ls) ≡ true → AllInOrder (joined ls) → touched x (joined (drop (b + 1) ls)) ≡ 0
+pub blocks-done : (x : ByteRange) (ls : List (List Run)) (b : ℕ) → b < length ls → list_any (reaches x) (list_at b ls) ≡ true
+    → AllInOrder (joined ls)
+    → touched x (joined (drop (b + 1) ls)) ≡ 0
 blocks-done x ls b l h ordered =
     let P : List Run → Type 0 = λ rs. AllInOrder rs in
     let here = order-right (joined (take b ls)) (list_at b ls ++ joined (drop (b + 1) ls)) (subst P (joined-at ls b l) ordered) in

@@ -49,7 +49,9 @@ placed e all done waits hand to_come h = record {
     all_fit = all-members Fits done (λ f m. Member-all Fits all h.fit f (h.done_in f m))
 
 -- the live parts take an edit that is put in
-content_takes : DocumentTakes → TextsTake → (e : Edit) (done : List Edit) (d : LiveDocument) (ts : Texts) (d' : LiveDocument) (ts' : Texts) → HasSizes e → IsApart e done → Placed e done → can (replay done) e ≡ true → ContentShows done d ts → IsPutIn e d ts d' ts' → ContentShows (with_edit e done) d' ts'
+content_takes : DocumentTakes → TextsTake → (e : Edit) (done : List Edit) (d : LiveDocument) (ts : Texts) (d' : LiveDocument) (ts' : Texts)
+    → HasSizes e → IsApart e done → Placed e done → can (replay done) e ≡ true → ContentShows done d ts → IsPutIn e d ts d' ts'
+    → ContentShows (with_edit e done) d' ts'
 content_takes takes texts_take e done d ts d' ts' sizes new p c was put =
     let k = p.place in
     let now : can (replay (k.low ++ k.high)) e ≡ true = subst (λ es. can (replay es) e ≡ true) k.whole c in
@@ -63,10 +65,13 @@ content_takes takes texts_take e done d ts d' ts' sizes new p c was put =
       few = few_more e done ts ts' new was.few put.2;
     }
 
-tells : (all hand : List Edit) (to_come : Thing → Bool) (b : Body) (e : Edit) (h : IsBodyHalfway all hand to_come b) → can_do b.live.boards b.texts e ≡ can (replay h.0) e
+tells : (all hand : List Edit) (to_come : Thing → Bool) (b : Body) (e : Edit) (h : IsBodyHalfway all hand to_come b)
+    → can_do b.live.boards b.texts e ≡ can (replay h.0) e
 tells all hand to_come b e h = content_can h.0 b.live b.texts e h.2.done_rise h.2.none_held h.1
 
-pub is_done : DocumentTakes → TextsTake → (e : Edit) (b c : Body) → HasSizes e → can_do b.live.boards b.texts e ≡ true → IsPutIn e b.live b.texts c.live c.texts → c.inbox ≡ b.inbox → IsDone e b c
+pub is_done : DocumentTakes → TextsTake → (e : Edit) (b c : Body) → HasSizes e → can_do b.live.boards b.texts e ≡ true
+    → IsPutIn e b.live b.texts c.live c.texts → c.inbox ≡ b.inbox
+    → IsDone e b c
 is_done takes texts_take e b c sizes able put same all hand before after h keep made =
     let now : can (replay h.0) e ≡ true = sym (tells all (e ∷ hand) before b e h) ∙ able in
     let next = edits_are_done e all h.0 b.inbox hand before after h.2 now keep made in
@@ -76,7 +81,9 @@ is_done takes texts_take e b c sizes able put same all hand before after h keep 
       subst P (sym same) next,
     )
 
-pub is_held_back : (e : Edit) (b c : Body) → can_do b.live.boards b.texts e ≡ false → c.live ≡ b.live → c.texts ≡ b.texts → c.inbox ≡ with_edit e b.inbox → IsHeldBack e b c
+pub is_held_back : (e : Edit) (b c : Body) → can_do b.live.boards b.texts e ≡ false → c.live ≡ b.live → c.texts ≡ b.texts
+    → c.inbox ≡ with_edit e b.inbox
+    → IsHeldBack e b c
 is_held_back e b c cant live texts waits all hand to_come h =
     let now : can (replay h.0) e ≡ false = sym (tells all (e ∷ hand) to_come b e h) ∙ cant in
     let next = edits_are_held e all h.0 b.inbox hand to_come h.2 now in
@@ -85,7 +92,8 @@ is_held_back e b c cant live texts waits all hand to_come h =
     let R : Texts → Type 0 = λ t. ContentShows h.0 c.live t in
     (h.0, subst R (sym texts) (subst Q (sym live) h.1), subst P (sym waits) next)
 
-pub is_released : (x : Thing) (b c : Body) → c.live ≡ b.live → c.texts ≡ b.texts → c.inbox ≡ not_naming x b.inbox → IsReleased x (naming x b.inbox) b c
+pub is_released : (x : Thing) (b c : Body) → c.live ≡ b.live → c.texts ≡ b.texts → c.inbox ≡ not_naming x b.inbox
+    → IsReleased x (naming x b.inbox) b c
 is_released x b c live texts waits all before after h goes =
     let next = things_are_released x all h.0 b.inbox before after h.2 goes in
     let P : List Edit → Type 0 = λ w. IsHalfway all h.0 w (naming x b.inbox) after in
@@ -120,7 +128,8 @@ any-more : (q : Edit → Bool) (es fs : List Edit) → list_any q es ≡ true �
 any-more q [] fs h = absurd (cc)
 any-more q (e ∷ es) fs h = go (q e) h (λ k. any-more q es fs k)
   where
-    go : (b : Bool) → (b || list_any q es) ≡ true → (list_any q es ≡ true → list_any q (es ++ fs) ≡ true) → (b || list_any q (es ++ fs)) ≡ true
+    go : (b : Bool) → (b || list_any q es) ≡ true → (list_any q es ≡ true → list_any q (es ++ fs) ≡ true)
+        → (b || list_any q (es ++ fs)) ≡ true
     go true k more = refl
     go false k more = more k
 

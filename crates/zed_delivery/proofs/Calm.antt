@@ -15,7 +15,8 @@ all-pass q (e ∷ es) h = go (q e) h (λ k. all-pass q es k)
     others : List Edit
     others = filter (λ f. not (q f)) es
 
-    go : (b : Bool) → length (cond (not b) (e ∷ others) others) ≡ 0 → (length others ≡ 0 → filter q es ≡ es) → cond b (e ∷ filter q es) (filter q es) ≡ e ∷ es
+    go : (b : Bool) → length (cond (not b) (e ∷ others) others) ≡ 0 → (length others ≡ 0 → filter q es ≡ es)
+        → cond b (e ∷ filter q es) (filter q es) ≡ e ∷ es
     go true h more = ap (λ fs. e ∷ fs) (more h)
     go false h more = absurd (cc)
 

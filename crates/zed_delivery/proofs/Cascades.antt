@@ -37,7 +37,8 @@ forgetful p (stat s) = refl
 forgetful p (text t) = refl
 forgetful p (element t a) = refl
 
-still-held : (e : Edit) (low high : List Edit) → IsRising (low ++ e ∷ high) → AllFit (low ++ e ∷ high) → can (replay low) e ≡ false → can (replay (taken (low ++ e ∷ high))) e ≡ false
+still-held : (e : Edit) (low high : List Edit) → IsRising (low ++ e ∷ high) → AllFit (low ++ e ∷ high) → can (replay low) e ≡ false
+    → can (replay (taken (low ++ e ∷ high))) e ≡ false
 still-held e low high r f c =
     ap (λ es. can (replay es) e) (held_takes_nothing e low high c)
     ∙ ap (λ p. can p e) (taken_make_all (low ++ high)).0
@@ -105,8 +106,10 @@ edits_arrive e all done waits to_come h fits new = record {
 
 -- ---- an edit in hand
 
-pub first-new : (e : Edit) (all done waits hand : List Edit) (to_come : Thing → Bool) → IsHalfway all done waits (e ∷ hand) to_come → AllByRecursion (λ f. same_stamp e.stamp f.stamp ≡ false) done
-first-new e all done waits hand to_come h = all-members (λ f. same_stamp e.stamp f.stamp ≡ false) done (λ f m. go f m (same_stamp e.stamp f.stamp) refl)
+pub first-new : (e : Edit) (all done waits hand : List Edit) (to_come : Thing → Bool) → IsHalfway all done waits (e ∷ hand) to_come
+    → AllByRecursion (λ f. same_stamp e.stamp f.stamp ≡ false) done
+first-new e all done waits hand to_come h =
+    all-members (λ f. same_stamp e.stamp f.stamp ≡ false) done (λ f m. go f m (same_stamp e.stamp f.stamp) refl)
   where
     go : (f : Edit) → Member f done → (b : Bool) → same_stamp e.stamp f.stamp ≡ b → b ≡ false
     go f m false b = refl
@@ -130,14 +133,17 @@ or-first false true h n = absurd (cc)
 or-first false false h n = h
 
 -- of names that are not all there before and all there after, one is new
-new-name : (p q : Thing → Bool) (ts : List Thing) → list_all p ts ≡ false → list_all q ts ≡ true → (x : Thing) × (list_any (λ n. same_thing n x) ts ≡ true) × (p x ≡ false) × (q x ≡ true)
+new-name : (p q : Thing → Bool) (ts : List Thing) → list_all p ts ≡ false → list_all q ts ≡ true
+    → (x : Thing) × (list_any (λ n. same_thing n x) ts ≡ true) × (p x ≡ false) × (q x ≡ true)
 new-name p q [] h k = absurd (cc)
 new-name p q (t ∷ ts) h k = go (p t) refl h (λ l. new-name p q ts l parts.1)
   where
     parts : (q t ≡ true) × (list_all q ts ≡ true)
     parts = and_parts (q t) (list_all q ts) k
 
-    go : (b : Bool) → p t ≡ b → (b && list_all p ts) ≡ false → (list_all p ts ≡ false → (x : Thing) × (list_any (λ n. same_thing n x) ts ≡ true) × (p x ≡ false) × (q x ≡ true)) → (x : Thing) × (list_any (λ n. same_thing n x) (t ∷ ts) ≡ true) × (p x ≡ false) × (q x ≡ true)
+    go : (b : Bool) → p t ≡ b → (b && list_all p ts) ≡ false
+        → (list_all p ts ≡ false → (x : Thing) × (list_any (λ n. same_thing n x) ts ≡ true) × (p x ≡ false) × (q x ≡ true))
+        → (x : Thing) × (list_any (λ n. same_thing n x) (t ∷ ts) ≡ true) × (p x ≡ false) × (q x ≡ true)
     go false b l more = (t, rw (same_thing-itself t) refl, b, parts.0)
     go true b l more = let r = more l in (r.0, ap (λ v. same_thing t r.0 || v) r.1 ∙ or-last (same_thing t r.0), r.2, r.3)
 
@@ -162,7 +168,8 @@ edits_are_done e all done waits hand to_come after h c keep made = record {
   waits_apart = λ g m d. elim (with_edit-members g e done d) [ inl q ↦ h.hand_new g (inl q) m | inr l ↦ h.waits_apart g m l ];
   hand_apart = λ g m d. elim (with_edit-members g e done d) [ inl q ↦ never e g q (later e g hand h.hand_rise.0 m) | inr l ↦ h.hand_apart g (inr m) l ];
   hand_new = λ g m n. h.hand_new g (inr m) n;
-  waiting = λ g m. elim (h.waiting g m) [ inl cant ↦ now g cant (can (replay (with_edit e done)) g) refl | inr a ↦ inr (a.0, a.1, keep a.0 a.2) ];
+  waiting =
+      λ g m. elim (h.waiting g m) [ inl cant ↦ now g cant (can (replay (with_edit e done)) g) refl | inr a ↦ inr (a.0, a.1, keep a.0 a.2) ];
 }
   where
     k : IsCut e done
@@ -274,7 +281,9 @@ pub one-of : (e : Edit) (es : List Edit) → is_one_of es e ≡ true → (d : Ed
 one-of e [] h = absurd (cc)
 one-of e (d ∷ es) h = go (same_stamp d.stamp e.stamp) refl h (λ k. one-of e es k)
   where
-    go : (b : Bool) → same_stamp d.stamp e.stamp ≡ b → (b || is_one_of es e) ≡ true → (is_one_of es e ≡ true → (f : Edit) × Member f es × (same_stamp f.stamp e.stamp ≡ true)) → (f : Edit) × Member f (d ∷ es) × (same_stamp f.stamp e.stamp ≡ true)
+    go : (b : Bool) → same_stamp d.stamp e.stamp ≡ b → (b || is_one_of es e) ≡ true
+        → (is_one_of es e ≡ true → (f : Edit) × Member f es × (same_stamp f.stamp e.stamp ≡ true))
+        → (f : Edit) × Member f (d ∷ es) × (same_stamp f.stamp e.stamp ≡ true)
     go true b k more = (d, inl refl, b)
     go false b k more = let r = more k in (r.0, inr r.1, r.2)
 

@@ -16,7 +16,8 @@ pub one_longer : (e : Edit) (es : List Edit) → length (with_edit e es) ≤ len
 one_longer e [] = omega arith
 one_longer e (f ∷ es) = go (before e.stamp f.stamp) (same_stamp e.stamp f.stamp) (one_longer e es)
   where
-    go : (a b : Bool) → length (with_edit e es) ≤ length es + 1 → length (cond a (e ∷ f ∷ es) (cond b (f ∷ es) (f ∷ with_edit e es))) ≤ length (f ∷ es) + 1
+    go : (a b : Bool) → length (with_edit e es) ≤ length es + 1
+        → length (cond a (e ∷ f ∷ es) (cond b (f ∷ es) (f ∷ with_edit e es))) ≤ length (f ∷ es) + 1
     go true b h = omega arith
     go false true h = omega arith
     go false false h = omega (arith, h)

@@ -35,7 +35,8 @@ or-none None = refl
 or-none (Some x) = refl
 
 pub content_has : ContentHasAll
-content_has done live texts (board b) r n was = (made_things_are_there done live.boards r was.live.boards).boards b ∙ made done (board b) r n
+content_has done live texts (board b) r n was =
+    (made_things_are_there done live.boards r was.live.boards).boards b ∙ made done (board b) r n
 content_has done live texts (stat x) r n was = (made_things_are_there done live.boards r was.live.boards).stats x ∙ made done (stat x) r n
 content_has done live texts (text t) r n was =
     sym (is_some-map elements (text_in t texts))

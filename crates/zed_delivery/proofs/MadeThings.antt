@@ -28,11 +28,14 @@ use Rattle.zed_delivery.specs.Made.{board_thing, text_thing, stat_things, all_st
 use Rattle.zed_delivery.proofs.Cascades.{or-last}
 
 -- the bytes of a run from one of them on
-pub run_more : (t : TextId) (s : Stamp) (i : ℕ) (bytes : List ℕ) → i < length bytes → byte_things t (run_from s i (drop i bytes)) ≡ element t (byte_of s i) ∷ byte_things t (run_from s (i + 1) (drop (i + 1) bytes))
+pub run_more : (t : TextId) (s : Stamp) (i : ℕ) (bytes : List ℕ) → i < length bytes
+    → byte_things t (run_from s i (drop i bytes)) ≡ element t (byte_of s i) ∷ byte_things t (run_from s (i + 1) (drop (i + 1) bytes))
 run_more t s i bytes l = ap (λ bs. byte_things t (run_from s i bs)) (drop_more bytes i 0 l)
 
 -- one byte more of a run is added
-pub inserted_one : (t : TextId) (s : Stamp) (i : ℕ) (bytes : List ℕ) (old new whole : List Thing) (a : ElemId) → i < length bytes → a ≡ byte_of s i → new ≡ old ++ element t a ∷ [] → old ++ byte_things t (run_from s i (drop i bytes)) ≡ whole → new ++ byte_things t (run_from s (i + 1) (drop (i + 1) bytes)) ≡ whole
+pub inserted_one : (t : TextId) (s : Stamp) (i : ℕ) (bytes : List ℕ) (old new whole : List Thing) (a : ElemId) → i < length bytes
+    → a ≡ byte_of s i → new ≡ old ++ element t a ∷ [] → old ++ byte_things t (run_from s i (drop i bytes)) ≡ whole
+    → new ++ byte_things t (run_from s (i + 1) (drop (i + 1) bytes)) ≡ whole
 inserted_one t s i bytes old new whole a l is added was =
     let rest = byte_things t (run_from s (i + 1) (drop (i + 1) bytes)) in
     ap (λ xs. xs ++ rest) added
@@ -41,11 +44,14 @@ inserted_one t s i bytes old new whole a l is added was =
     ∙ ap (λ xs. old ++ xs) (sym (run_more t s i bytes l))
     ∙ was
 
-any-map : {X : Type 0} (f : X → Thing) (q : X → Bool) (x : Thing) → ((y : X) → q y ≡ true → same_thing (f y) x ≡ true) → (ys : List X) → list_any q ys ≡ true → is_among (map f ys) x ≡ true
+any-map : {X : Type 0} (f : X → Thing) (q : X → Bool) (x : Thing) → ((y : X) → q y ≡ true → same_thing (f y) x ≡ true) → (ys : List X)
+    → list_any q ys ≡ true
+    → is_among (map f ys) x ≡ true
 any-map f q x k [] h = absurd (cc)
 any-map f q x k (y ∷ ys) h = go (q y) refl h (λ l. any-map f q x k ys l)
   where
-    go : (b : Bool) → q y ≡ b → (b || list_any q ys) ≡ true → (list_any q ys ≡ true → is_among (map f ys) x ≡ true) → (same_thing (f y) x || is_among (map f ys) x) ≡ true
+    go : (b : Bool) → q y ≡ b → (b || list_any q ys) ≡ true → (list_any q ys ≡ true → is_among (map f ys) x ≡ true)
+        → (same_thing (f y) x || is_among (map f ys) x) ≡ true
     go true e l more = ap (λ v. v || is_among (map f ys) x) (k y e)
     go false e l more = ap (λ v. same_thing (f y) x || v) (more l) ∙ or-last (same_thing (f y) x)
 
@@ -55,30 +61,43 @@ among-first xs ys x h = list_any-append (λ n. same_thing n x) xs ys ∙ ap (λ 
 among-last : (xs ys : List Thing) (x : Thing) → is_among ys x ≡ true → is_among (xs ++ ys) x ≡ true
 among-last xs ys x h = list_any-append (λ n. same_thing n x) xs ys ∙ ap (λ v. is_among xs x || v) h ∙ or-last (is_among xs x)
 
-in-stats : (x : StatId) (bs : List Board) → list_any (λ (y : Stat). same_stat y.id x) (stats_of bs) ≡ true → is_among (all_stat_things bs) (stat x) ≡ true
+in-stats : (x : StatId) (bs : List Board) → list_any (λ (y : Stat). same_stat y.id x) (stats_of bs) ≡ true
+    → is_among (all_stat_things bs) (stat x) ≡ true
 in-stats x [] h = absurd (cc)
 in-stats x (b ∷ bs) h = go (list_any q b.stats) refl (sym (list_any-append q b.stats (stats_of bs)) ∙ h) (λ l. in-stats x bs l)
   where
     q : Stat → Bool
     q y = same_stat y.id x
 
-    go : (v : Bool) → list_any q b.stats ≡ v → (v || list_any q (stats_of bs)) ≡ true → (list_any q (stats_of bs) ≡ true → is_among (all_stat_things bs) (stat x) ≡ true) → is_among (stat_things b.stats ++ all_stat_things bs) (stat x) ≡ true
-    go true e l more = among-first (stat_things b.stats) (all_stat_things bs) (stat x) (any-map (λ (y : Stat). stat y.id) q (stat x) (λ y k. k) b.stats e)
+    go : (v : Bool) → list_any q b.stats ≡ v → (v || list_any q (stats_of bs)) ≡ true
+        → (list_any q (stats_of bs) ≡ true → is_among (all_stat_things bs) (stat x) ≡ true)
+        → is_among (stat_things b.stats ++ all_stat_things bs) (stat x) ≡ true
+    go true e l more =
+        among-first (stat_things b.stats) (all_stat_things bs) (stat x) (any-map (λ (y : Stat). stat y.id) q (stat x) (λ y k. k) b.stats e)
     go false e l more = among-last (stat_things b.stats) (all_stat_things bs) (stat x) (more l)
 
-in-run : (t u : TextId) (a : ElemId) (xs : List TextByte) → same_text u t ≡ true → list_any (λ (x : TextByte). same_element x.id a) xs ≡ true → is_among (byte_things u xs) (element t a) ≡ true
+in-run : (t u : TextId) (a : ElemId) (xs : List TextByte) → same_text u t ≡ true
+    → list_any (λ (x : TextByte). same_element x.id a) xs ≡ true
+    → is_among (byte_things u xs) (element t a) ≡ true
 in-run t u a xs e h = any-map (λ (x : TextByte). element u x.id) (λ (x : TextByte). same_element x.id a) (element t a) (λ y k. and_from (same_text u t) (same_element y.id a) e k) xs h
 
-in-bytes : (t : TextId) (a : ElemId) (ts : List Text) → list_any (λ (x : TextByte). same_element x.id a) (elements_in (find_text t ts)) ≡ true → is_among (all_byte_things ts) (element t a) ≡ true
+in-bytes : (t : TextId) (a : ElemId) (ts : List Text)
+    → list_any (λ (x : TextByte). same_element x.id a) (elements_in (find_text t ts)) ≡ true
+    → is_among (all_byte_things ts) (element t a) ≡ true
 in-bytes t a [] h = absurd (cc)
 in-bytes t a (u ∷ ts) h = go (same_text u.id t) refl h (λ l. in-bytes t a ts l)
   where
-    go : (v : Bool) → same_text u.id t ≡ v → list_any (λ (x : TextByte). same_element x.id a) (elements_in (cond v (Some u) (find_text t ts))) ≡ true → (list_any (λ (x : TextByte). same_element x.id a) (elements_in (find_text t ts)) ≡ true → is_among (all_byte_things ts) (element t a) ≡ true) → is_among (byte_things u.id u.elements ++ all_byte_things ts) (element t a) ≡ true
+    go : (v : Bool) → same_text u.id t ≡ v
+        → list_any (λ (x : TextByte). same_element x.id a) (elements_in (cond v (Some u) (find_text t ts))) ≡ true
+        → (list_any (λ (x : TextByte). same_element x.id a) (elements_in (find_text t ts)) ≡ true → is_among (all_byte_things ts) (element t a) ≡ true)
+        → is_among (byte_things u.id u.elements ++ all_byte_things ts) (element t a) ≡ true
     go true e l more = among-first (byte_things u.id u.elements) (all_byte_things ts) (element t a) (in-run t u.id a u.elements e l)
     go false e l more = among-last (byte_things u.id u.elements) (all_byte_things ts) (element t a) (more l)
 
 -- an op that makes stats and bytes with their boards and texts alone
-general : (s : Stamp) (op : Op) → made_stats s op ≡ stats_of (made_boards s op) → ((t : TextId) → made_bytes s op t ≡ elements_in (find_text t (made_texts s op))) → (x : Thing) → op_makes s op x ≡ true → is_among (things_in (made_boards s op) (made_texts s op)) x ≡ true
+general : (s : Stamp) (op : Op) → made_stats s op ≡ stats_of (made_boards s op)
+    → ((t : TextId) → made_bytes s op t ≡ elements_in (find_text t (made_texts s op))) → (x : Thing) → op_makes s op x ≡ true
+    → is_among (things_in (made_boards s op) (made_texts s op)) x ≡ true
 general s op p q (board b) h =
     let bs = made_boards s op in
     let ts = made_texts s op in
@@ -124,7 +143,8 @@ op_made s (TextInsert u after bytes) (stat x) h = absurd (cc)
 op_made s (TextInsert u after bytes) (text t) h = absurd (cc)
 op_made s (TextInsert u after bytes) (element t a) h = go (same_text u t) refl h
   where
-    go : (v : Bool) → same_text u t ≡ v → list_any (λ (x : TextByte). same_element x.id a) (cond v (run_from s 0 bytes) []) ≡ true → is_among (byte_things u (run_from s 0 bytes)) (element t a) ≡ true
+    go : (v : Bool) → same_text u t ≡ v → list_any (λ (x : TextByte). same_element x.id a) (cond v (run_from s 0 bytes) []) ≡ true
+        → is_among (byte_things u (run_from s 0 bytes)) (element t a) ≡ true
     go true e l = in-run t u a (run_from s 0 bytes) e l
     go false e l = absurd (cc)
 op_made s (TextDelete t r) x h = general s (TextDelete t r) refl (λ u. refl) x h

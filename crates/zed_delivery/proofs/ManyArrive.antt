@@ -35,7 +35,8 @@ apart-more g e es a d = all-members (λ f. same_stamp g.stamp f.stamp ≡ false)
   | inr k ↦ Member-all (λ x. same_stamp g.stamp x.stamp ≡ false) es a f k
 ])
 
-all-apart-more : (e : Edit) (es rest : List Edit) → AllByRecursion (λ g. IsApart g es) rest → IsApart e rest → AllByRecursion (λ g. IsApart g (with_edit e es)) rest
+all-apart-more : (e : Edit) (es rest : List Edit) → AllByRecursion (λ g. IsApart g es) rest → IsApart e rest
+    → AllByRecursion (λ g. IsApart g (with_edit e es)) rest
 all-apart-more e es [] a d = tt
 all-apart-more e es (g ∷ rest) a d = (apart-more g e es a.0 d.0, all-apart-more e es rest a.1 d.1)
 
@@ -48,7 +49,9 @@ apart-none (e ∷ es) = (tt, apart-none es)
 first-comes : (e : Edit) (rest es : List Edit) (b : Body) → AllComeTo (e ∷ rest) es b → ComesTo e es b
 first-comes e rest es b k = record { rising = k.rising; fit = k.fit; shows = k.shows; apart = k.apart.0 }
 
-pub one_more_came : (more : List Edit) (b : Body) (e : Edit) (rest : List Edit) (c d : Body) → Fits e → ComeOneByOne more b (e ∷ rest) c → ShowsOneMore e c d → ComeOneByOne more b rest d
+pub one_more_came : (more : List Edit) (b : Body) (e : Edit) (rest : List Edit) (c d : Body) → Fits e → ComeOneByOne more b (e ∷ rest) c
+    → ShowsOneMore e c d
+    → ComeOneByOne more b rest d
 one_more_came more b e rest c d fits come shows es h =
     let k = come es h in
     let a = k.1 in (

@@ -23,7 +23,8 @@ never f e q b =
     let i = before_irrefl e.stamp in
     absurd (cc)
 
-pub later : (f e : Edit) (es : List Edit) → AllByRecursion (λ g. before f.stamp g.stamp ≡ true) es → Member e es → before f.stamp e.stamp ≡ true
+pub later : (f e : Edit) (es : List Edit) → AllByRecursion (λ g. before f.stamp g.stamp ≡ true) es → Member e es
+    → before f.stamp e.stamp ≡ true
 later f e es a m = Member-all (λ g. before f.stamp g.stamp ≡ true) es a e m
 
 -- ---- those taken and those held
@@ -32,7 +33,8 @@ pub held-rising : (p : Plain) (es : List Edit) → IsRising es → IsRising (hel
 held-rising p [] r = tt
 held-rising p (e ∷ es) r = go (can p e) (held-all (λ f. before e.stamp f.stamp ≡ true) (step p e) es r.0) (held-rising (step p e) es r.1)
   where
-    go : (b : Bool) → AllByRecursion (λ f. before e.stamp f.stamp ≡ true) (held_on (step p e) es) → IsRising (held_on (step p e) es) → IsRising (cond b (held_on (step p e) es) (e ∷ held_on (step p e) es))
+    go : (b : Bool) → AllByRecursion (λ f. before e.stamp f.stamp ≡ true) (held_on (step p e) es) → IsRising (held_on (step p e) es)
+        → IsRising (cond b (held_on (step p e) es) (e ∷ held_on (step p e) es))
     go true a more = more
     go false a more = (a, more)
 
@@ -40,7 +42,9 @@ pub either : (p : Plain) (e : Edit) (es : List Edit) → Member e es → Member 
 either p e [] m = absurd m
 either p e (f ∷ es) m = go (can p f) m (λ k. either (step p f) e es k)
   where
-    go : (b : Bool) → Member e (f ∷ es) → (Member e es → Member e (taken_on (step p f) es) ⊎ Member e (held_on (step p f) es)) → Member e (cond b (f ∷ taken_on (step p f) es) (taken_on (step p f) es)) ⊎ Member e (cond b (held_on (step p f) es) (f ∷ held_on (step p f) es))
+    go : (b : Bool) → Member e (f ∷ es) → (Member e es → Member e (taken_on (step p f) es) ⊎ Member e (held_on (step p f) es))
+        → Member e (cond b (f ∷ taken_on (step p f) es) (taken_on (step p f) es))
+        ⊎ Member e (cond b (held_on (step p f) es) (f ∷ held_on (step p f) es))
     go true m more = elim m [ inl q ↦ inl (inl q) | inr k ↦ elim (more k) [ inl t ↦ inl (inr t) | inr h ↦ inr h ] ]
     go false m more = elim m [ inl q ↦ inr (inl q) | inr k ↦ elim (more k) [ inl t ↦ inl t | inr h ↦ inr (inr h) ] ]
 
@@ -48,7 +52,9 @@ pub taken-in : (p : Plain) (e : Edit) (es : List Edit) → Member e (taken_on p 
 taken-in p e [] m = absurd m
 taken-in p e (f ∷ es) m = go (can p f) m (λ k. taken-in (step p f) e es k)
   where
-    go : (b : Bool) → Member e (cond b (f ∷ taken_on (step p f) es) (taken_on (step p f) es)) → (Member e (taken_on (step p f) es) → Member e es) → Member e (f ∷ es)
+    go : (b : Bool) → Member e (cond b (f ∷ taken_on (step p f) es) (taken_on (step p f) es))
+        → (Member e (taken_on (step p f) es) → Member e es)
+        → Member e (f ∷ es)
     go true m more = elim m [ inl q ↦ inl q | inr k ↦ inr (more k) ]
     go false m more = inr (more m)
 
@@ -56,7 +62,9 @@ pub held-in : (p : Plain) (e : Edit) (es : List Edit) → Member e (held_on p es
 held-in p e [] m = absurd m
 held-in p e (f ∷ es) m = go (can p f) m (λ k. held-in (step p f) e es k)
   where
-    go : (b : Bool) → Member e (cond b (held_on (step p f) es) (f ∷ held_on (step p f) es)) → (Member e (held_on (step p f) es) → Member e es) → Member e (f ∷ es)
+    go : (b : Bool) → Member e (cond b (held_on (step p f) es) (f ∷ held_on (step p f) es))
+        → (Member e (held_on (step p f) es) → Member e es)
+        → Member e (f ∷ es)
     go true m more = inr (more m)
     go false m more = elim m [ inl q ↦ inl q | inr k ↦ inr (more k) ]
 
@@ -67,7 +75,10 @@ not-both p e (f ∷ es) r m n = go (can p f) m n (λ k l. not-both (step p f) e 
     first : f ≡ e → Member e es → ⊥
     first q k = never f e q (later f e es r.0 k)
 
-    go : (b : Bool) → Member e (cond b (f ∷ taken_on (step p f) es) (taken_on (step p f) es)) → Member e (cond b (held_on (step p f) es) (f ∷ held_on (step p f) es)) → (Member e (taken_on (step p f) es) → Member e (held_on (step p f) es) → ⊥) → ⊥
+    go : (b : Bool) → Member e (cond b (f ∷ taken_on (step p f) es) (taken_on (step p f) es))
+        → Member e (cond b (held_on (step p f) es) (f ∷ held_on (step p f) es))
+        → (Member e (taken_on (step p f) es) → Member e (held_on (step p f) es) → ⊥)
+        → ⊥
     go true m n more = elim m [ inl q ↦ first q (held-in (step p f) e es n) | inr k ↦ more k n ]
     go false m n more = elim n [ inl q ↦ first q (taken-in (step p f) e es m) | inr k ↦ more m k ]
 
@@ -85,7 +96,9 @@ held-at p e (f ∷ es) m = go (can p f) refl m (λ k. held-at (step p f) e es k)
     behind : HeldAt (step p f) e es → HeldAt p e (f ∷ es)
     behind k = record { low = f ∷ k.low; high = k.high; whole = ap (λ xs. f ∷ xs) k.whole; held = k.held }
 
-    go : (b : Bool) → can p f ≡ b → Member e (cond b (held_on (step p f) es) (f ∷ held_on (step p f) es)) → (Member e (held_on (step p f) es) → HeldAt (step p f) e es) → HeldAt p e (f ∷ es)
+    go : (b : Bool) → can p f ≡ b → Member e (cond b (held_on (step p f) es) (f ∷ held_on (step p f) es))
+        → (Member e (held_on (step p f) es) → HeldAt (step p f) e es)
+        → HeldAt p e (f ∷ es)
     go true c m more = behind (more m)
     go false c m more = elim m [
       | inl q ↦ record { low = []; high = es; whole = ap (λ x. x ∷ es) q; held = subst (λ x. can p x ≡ false) q c }
@@ -98,7 +111,9 @@ pub in-filter : (test : Edit → Bool) (e : Edit) (es : List Edit) → Member e 
 in-filter test e [] m = absurd m
 in-filter test e (f ∷ es) m = go (test f) refl m (λ k. in-filter test e es k)
   where
-    go : (b : Bool) → test f ≡ b → Member e (cond b (f ∷ filter test es) (filter test es)) → (Member e (filter test es) → Member e es × (test e ≡ true)) → Member e (f ∷ es) × (test e ≡ true)
+    go : (b : Bool) → test f ≡ b → Member e (cond b (f ∷ filter test es) (filter test es))
+        → (Member e (filter test es) → Member e es × (test e ≡ true))
+        → Member e (f ∷ es) × (test e ≡ true)
     go true b m more = elim m [ inl q ↦ (inl q, subst (λ x. test x ≡ true) q b) | inr k ↦ (inr (more k).0, (more k).1) ]
     go false b m more = (inr (more m).0, (more m).1)
 
@@ -106,7 +121,8 @@ pub to-filter : (test : Edit → Bool) (e : Edit) (es : List Edit) → Member e 
 to-filter test e [] m h = absurd m
 to-filter test e (f ∷ es) m h = go (test f) refl m (λ k. to-filter test e es k h)
   where
-    go : (b : Bool) → test f ≡ b → Member e (f ∷ es) → (Member e es → Member e (filter test es)) → Member e (cond b (f ∷ filter test es) (filter test es))
+    go : (b : Bool) → test f ≡ b → Member e (f ∷ es) → (Member e es → Member e (filter test es))
+        → Member e (cond b (f ∷ filter test es) (filter test es))
     go true b m more = elim m [ inl q ↦ inl q | inr k ↦ inr (more k) ]
     go false b m more = elim m [ inl q ↦ (let c = subst (λ x. test x ≡ false) q b in absurd (cc)) | inr k ↦ more k ]
 
@@ -122,7 +138,8 @@ pub filter-rising : (test : Edit → Bool) (es : List Edit) → IsRising es → 
 filter-rising test [] r = tt
 filter-rising test (e ∷ es) r = go (test e) (filter-all (λ f. before e.stamp f.stamp ≡ true) test es r.0) (filter-rising test es r.1)
   where
-    go : (b : Bool) → AllByRecursion (λ f. before e.stamp f.stamp ≡ true) (filter test es) → IsRising (filter test es) → IsRising (cond b (e ∷ filter test es) (filter test es))
+    go : (b : Bool) → AllByRecursion (λ f. before e.stamp f.stamp ≡ true) (filter test es) → IsRising (filter test es)
+        → IsRising (cond b (e ∷ filter test es) (filter test es))
     go true a more = (a, more)
     go false a more = more
 
@@ -140,7 +157,8 @@ cut e (f ∷ es) n = go (before e.stamp f.stamp) refl (cut e es n.1)
   where
     go : (b : Bool) → before e.stamp f.stamp ≡ b → IsCut e es → IsCut e (f ∷ es)
     go true b k = record { low = []; high = f ∷ es; whole = refl; with_it = rw b refl }
-    go false b k = record { low = f ∷ k.low; high = k.high; whole = ap (λ xs. f ∷ xs) k.whole; with_it = rw (b, n.0) (ap (λ xs. f ∷ xs) k.with_it) }
+    go false b k =
+        record { low = f ∷ k.low; high = k.high; whole = ap (λ xs. f ∷ xs) k.whole; with_it = rw (b, n.0) (ap (λ xs. f ∷ xs) k.with_it) }
 
 pub all-behind : (P : Edit → Type 0) (low high : List Edit) → AllByRecursion P (low ++ high) → AllByRecursion P high
 all-behind P [] high a = a

@@ -27,7 +27,8 @@ count-more : (q : Edit → Bool) (e : Edit) (es : List Edit) → IsApart e es �
 count-more q e [] new = count-cons q e []
 count-more q e (f ∷ fs) new = go (before e.stamp f.stamp) (same_stamp e.stamp f.stamp) new.0 (count-more q e fs new.1)
   where
-    go : (a b : Bool) → b ≡ false → count_by q (with_edit e fs) ≡ cond (q e) 1 0 + count_by q fs → count_by q (cond a (e ∷ f ∷ fs) (cond b (f ∷ fs) (f ∷ with_edit e fs))) ≡ cond (q e) 1 0 + count_by q (f ∷ fs)
+    go : (a b : Bool) → b ≡ false → count_by q (with_edit e fs) ≡ cond (q e) 1 0 + count_by q fs
+        → count_by q (cond a (e ∷ f ∷ fs) (cond b (f ∷ fs) (f ∷ with_edit e fs))) ≡ cond (q e) 1 0 + count_by q (f ∷ fs)
     go true b n more = count-cons q e (f ∷ fs)
     go false true n more = absurd (cc)
     go false false n more =
@@ -43,10 +44,14 @@ raised-most v k = omega arith
 raised-least : (v k : ℕ) → v ≤ greatest → v ≤ raised v k
 raised-least v k h = omega (arith, h)
 
-pub few_more : (e : Edit) (done : List Edit) (xs ys : Texts) → IsApart e done → HaveFew done xs → AllGrow (λ t. changes_text t e.op) xs ys → HaveFew (with_edit e done) ys
-few_more e done xs ys new few grow t = go (changes_text t e.op) (count-more (λ f. changes_text t f.op) e done new) (text_in t xs) (text_in t ys) (few t) (grow t)
+pub few_more : (e : Edit) (done : List Edit) (xs ys : Texts) → IsApart e done → HaveFew done xs → AllGrow (λ t. changes_text t e.op) xs ys
+    → HaveFew (with_edit e done) ys
+few_more e done xs ys new few grow t =
+    go (changes_text t e.op) (count-more (λ f. changes_text t f.op) e done new) (text_in t xs) (text_in t ys) (few t) (grow t)
   where
-    go : (c : Bool) → edits_of t (with_edit e done) ≡ cond c 1 0 + edits_of t done → (o p : Option Shown) → HasFew (edits_of t done) o → Grows c o p → HasFew (edits_of t (with_edit e done)) p
+    go : (c : Bool) → edits_of t (with_edit e done) ≡ cond c 1 0 + edits_of t done → (o p : Option Shown) → HasFew (edits_of t done) o
+        → Grows c o p
+        → HasFew (edits_of t (with_edit e done)) p
     go c n o None f g = tt
     go c n None (Some y) f g = (omega (arith, g.0), omega (arith, g.1))
     go true n (Some x) (Some y) f g =
@@ -88,7 +93,8 @@ grown_falls_not changed es xs ys few grow t = go (changed t) (text_in t xs) (tex
 
 -- ---- a cascade
 
-pub stirs_done : (e : Edit) (b c : Body) → IsInHand e b → AllGrow (λ t. changes_text t e.op) b.texts c.texts → c.inbox ≡ b.inbox → Stirs 1 b c
+pub stirs_done : (e : Edit) (b c : Body) → IsInHand e b → AllGrow (λ t. changes_text t e.op) b.texts c.texts → c.inbox ≡ b.inbox
+    → Stirs 1 b c
 stirs_done e b c hand grow same = record {
   none_falls = grown_falls_not (λ t. changes_text t e.op) hand.3.0 b.texts c.texts hand.3.1.few grow;
   fewer = inr (let n = ap length same in omega (arith, n));
@@ -111,7 +117,9 @@ stirs_released n b c d same all s = record {
 
 -- ---- an edit that is taken
 
-pub done_with_all : (e : Edit) (b c d x : Body) → IsNewTo e b → AllGrow (λ t. changes_text t e.op) b.texts c.texts → c.inbox ≡ b.inbox → Stirs 0 c d → Stirs 0 d x → IsDoneWithAll e b x
+pub done_with_all : (e : Edit) (b c d x : Body) → IsNewTo e b → AllGrow (λ t. changes_text t e.op) b.texts c.texts → c.inbox ≡ b.inbox
+    → Stirs 0 c d → Stirs 0 d x
+    → IsDoneWithAll e b x
 done_with_all e b c d x new grow same wakes settles =
     let on = stirs_on 0 0 c d x wakes settles in
     let was = ap length same in
@@ -132,7 +140,9 @@ works_held e t xs ys waits same = record {
   calm = λ h k. absurd (cc);
 }
 
-pub works_done : (e : Edit) (t : Taken) (b c : Body) → t.held ≡ false → (t.woken ≡ 0 → length b.inbox ≤ length c.inbox) → IsDoneWithAll e b c → Works e t b.texts c.texts
+pub works_done : (e : Edit) (t : Taken) (b c : Body) → t.held ≡ false → (t.woken ≡ 0 → length b.inbox ≤ length c.inbox)
+    → IsDoneWithAll e b c
+    → Works e t b.texts c.texts
 works_done e t b c goes count done = record {
   none_falls = done.none_falls;
   held = λ h. absurd (cc);

@@ -45,7 +45,8 @@ one-cut e (x ∷ low) high (y ∷ below) above r q =
 
 -- ---- the stamps of the edits that are held
 
-any-stamp : (s : Stamp) (es : List Edit) → list_any (λ t. same_stamp t s) (map (λ e. e.stamp) es) ≡ list_any (λ (d : Edit). same_stamp d.stamp s) es
+any-stamp : (s : Stamp) (es : List Edit)
+    → list_any (λ t. same_stamp t s) (map (λ e. e.stamp) es) ≡ list_any (λ (d : Edit). same_stamp d.stamp s) es
 any-stamp s [] = refl
 any-stamp s (e ∷ es) = rw (any-stamp s es) refl
 
@@ -114,12 +115,15 @@ held-with e es c cant =
     ∙ ap (λ xs. with_edit e (held xs)) (sym k.whole)
 
 -- the edit held of a stamp that is held
-held-same : (e : Edit) (es all : List Edit) → IsRising all → ((f : Edit) → Member f es → Member f all) → Member e all → is_one_of es e ≡ true → Member e es
+held-same : (e : Edit) (es all : List Edit) → IsRising all → ((f : Edit) → Member f es → Member f all) → Member e all
+    → is_one_of es e ≡ true
+    → Member e es
 held-same e es all r in-all m h =
     let o = one-of e es h in
     subst (λ x. Member x es) (rising-agree all r o.0 e (in-all o.0 o.1) m (same_stamp-true o.0.stamp e.stamp o.2)) o.1
 
-pub told-done : (e : Edit) (es : List Edit) → IsRising es → AllFit es → Fits e → IsApart e es → can (replay es) e ≡ true → is_held (with_edit e es) e.stamp ≡ false
+pub told-done : (e : Edit) (es : List Edit) → IsRising es → AllFit es → Fits e → IsApart e es → can (replay es) e ≡ true
+    → is_held (with_edit e es) e.stamp ≡ false
 told-done e es r f fits n able = held-one (with_edit e es) e ∙ go (is_one_of (held (with_edit e es)) e) refl
   where
     c : Comes e es
@@ -129,7 +133,8 @@ told-done e es r f fits n able = held-one (with_edit e es) e ∙ go (is_one_of (
     go false h = refl
     go true h = absurd (done-not-held e es c able (held-same e (held (with_edit e es)) (with_edit e es) (with_edit-rising e es r) (λ g m. held-in empty_document g (with_edit e es) m) c.is_there h))
 
-pub told-held : (e : Edit) (es : List Edit) → IsRising es → AllFit es → Fits e → IsApart e es → can (replay es) e ≡ false → is_held (with_edit e es) e.stamp ≡ true
+pub told-held : (e : Edit) (es : List Edit) → IsRising es → AllFit es → Fits e → IsApart e es → can (replay es) e ≡ false
+    → is_held (with_edit e es) e.stamp ≡ true
 told-held e es r f fits n cant =
     held-one (with_edit e es) e
     ∙ ap (λ xs. is_one_of xs e) (held-with e es c cant)
@@ -145,7 +150,8 @@ told-held e es r f fits n cant =
         absurd (cc)
 
 -- where it is done, those that are held were held before
-still-held-were : (e : Edit) (es : List Edit) → Comes e es → can (replay es) e ≡ true → (g : Edit) → Member g (held (with_edit e es)) → Member g (held es)
+still-held-were : (e : Edit) (es : List Edit) → Comes e es → can (replay es) e ≡ true → (g : Edit) → Member g (held (with_edit e es))
+    → Member g (held es)
 still-held-were e es c able g m =
     let k = c.place in
     let there = Member-to g (held (k.low ++ e ∷ k.high)) (subst (λ xs. Member g (held xs)) k.with_it m) in
@@ -155,7 +161,8 @@ still-held-were e es c able g m =
     ]
 
 -- and they are those held before that are held still
-pub still-held : (e : Edit) (es : List Edit) → IsRising es → AllFit es → Fits e → IsApart e es → can (replay es) e ≡ true → filter (λ (g : Edit). is_held (with_edit e es) g.stamp) (held es) ≡ held (with_edit e es)
+pub still-held : (e : Edit) (es : List Edit) → IsRising es → AllFit es → Fits e → IsApart e es → can (replay es) e ≡ true
+    → filter (λ (g : Edit). is_held (with_edit e es) g.stamp) (held es) ≡ held (with_edit e es)
 still-held e es r f fits n able =
     rising-same (filter still (held es)) (held new) (filter-rising still (held es) (held-rising empty_document es r)) (held-rising empty_document new rises)
     (λ g m. let h = in-filter still g (held es) m in held-same g (held new) new rises (λ x k. held-in empty_document x new k) (with_edit-keeps g e es (held-in empty_document g es h.0)) (sym (held-one new g) ∙ h.1))
@@ -173,7 +180,8 @@ still-held e es r f fits n able =
     rises : IsRising new
     rises = with_edit-rising e es r
 
-pub woken-done : (e : Edit) (es : List Edit) → IsRising es → AllFit es → Fits e → IsApart e es → can (replay es) e ≡ true → woken es (with_edit e es) + length (held (with_edit e es)) ≡ length (held es)
+pub woken-done : (e : Edit) (es : List Edit) → IsRising es → AllFit es → Fits e → IsApart e es → can (replay es) e ≡ true
+    → woken es (with_edit e es) + length (held (with_edit e es)) ≡ length (held es)
 woken-done e es r f fits n able =
     let both = length-filter_both still gone (λ x. refl) (held es) in
     let left : length (filter still (held es)) ≡ length (held new) = ap length (still-held e es r f fits n able) in
@@ -193,7 +201,8 @@ none-pass : (q : Edit → Bool) (es : List Edit) → ((g : Edit) → Member g es
 none-pass q [] h = refl
 none-pass q (e ∷ es) h = rw (h e (inl refl)) (none-pass q es (λ g m. h g (inr m)))
 
-pub woken-held : (e : Edit) (es : List Edit) → IsRising es → AllFit es → Fits e → IsApart e es → can (replay es) e ≡ false → woken es (with_edit e es) ≡ 0
+pub woken-held : (e : Edit) (es : List Edit) → IsRising es → AllFit es → Fits e → IsApart e es → can (replay es) e ≡ false
+    → woken es (with_edit e es) ≡ 0
 woken-held e es r f fits n cant =
     woken-edits es (with_edit e es)
     ∙ ap length (none-pass (λ (g : Edit). not (is_held (with_edit e es) g.stamp)) (held es) (λ g m. ap not (stays g m)))

@@ -30,7 +30,8 @@ not-author : (s : Stamp) → same_stamp s genesis_stamp ≡ true → is_author_s
 not-author s h = rw (same_stamp-true s genesis_stamp h) refl
 
 -- an edit with the stamp of the world makes the world, which can always be done
-world-can : (op : Op) (s : Stamp) → is_own_stamp op s ≡ true → same_stamp s genesis_stamp ≡ true → (p : Plain) → has_all p (names_of op) ≡ true
+world-can : (op : Op) (s : Stamp) → is_own_stamp op s ≡ true → same_stamp s genesis_stamp ≡ true → (p : Plain)
+    → has_all p (names_of op) ≡ true
 world-can (Genesis bytes) s o h p = refl
 world-can _ s o h p = absurd (let n = not-author s h in cc)
 
@@ -38,11 +39,13 @@ among-push : (g s : Stamp) (ts : List Stamp) → is_among ts g ≡ false → sam
 among-push g s [] a h = rw h refl
 among-push g s (t ∷ ts) a h = go (same_stamp t g) refl (λ k. among-push g s ts k h)
   where
-    go : (b : Bool) → same_stamp t g ≡ b → (is_among ts g ≡ false → is_among (ts ++ s ∷ []) g ≡ false) → is_among ((t ∷ ts) ++ s ∷ []) g ≡ false
+    go : (b : Bool) → same_stamp t g ≡ b → (is_among ts g ≡ false → is_among (ts ++ s ∷ []) g ≡ false)
+        → is_among ((t ∷ ts) ++ s ∷ []) g ≡ false
     go true b more = absurd (let k = rw b at a in cc)
     go false b more = rw b (more (rw b at a))
 
-world-step : FitIsEachPart → (p : Plain) (e : Edit) → Fits e → is_among p.held genesis_stamp ≡ false → is_among (step p e).held genesis_stamp ≡ false
+world-step : FitIsEachPart → (p : Plain) (e : Edit) → Fits e → is_among p.held genesis_stamp ≡ false
+    → is_among (step p e).held genesis_stamp ≡ false
 world-step parts p e f a = go (can p e) refl (same_stamp e.stamp genesis_stamp) refl
   where
     go : (b : Bool) → can p e ≡ b → (w : Bool) → same_stamp e.stamp genesis_stamp ≡ w → is_among (step p e).held genesis_stamp ≡ false
@@ -54,7 +57,8 @@ world-step parts p e f a = go (can p e) refl (same_stamp e.stamp genesis_stamp) 
     go false b false h = rw b (among-push genesis_stamp e.stamp p.held a h)
 
 -- the stamp of the world is never that of an edit which is held
-world-never_held : FitIsEachPart → (es : List Edit) (p : Plain) → AllFit es → is_among p.held genesis_stamp ≡ false → is_among (replay_on p es).held genesis_stamp ≡ false
+world-never_held : FitIsEachPart → (es : List Edit) (p : Plain) → AllFit es → is_among p.held genesis_stamp ≡ false
+    → is_among (replay_on p es).held genesis_stamp ≡ false
 world-never_held parts [] p f a = a
 world-never_held parts (e ∷ es) p f a = world-never_held parts es (step p e) f.1 (world-step parts p e f.0 a)
 
@@ -65,7 +69,8 @@ world-stamp _ s g o = absurd (cc)
 pub last-edit : (e : Edit) (es : List Edit) → AllBelow e.stamp es → with_edit e es ≡ es ++ e ∷ []
 last-edit e es b = ap (with_edit e) (sym (append-nil es)) ∙ with_edit-between e es [] b tt
 
-taken-last : OneMoreIsOneStep → (e : Edit) (es : List Edit) → AllBelow e.stamp es → can (replay es) e ≡ true → is_among (held_stamps (with_edit e es)) e.stamp ≡ false
+taken-last : OneMoreIsOneStep → (e : Edit) (es : List Edit) → AllBelow e.stamp es → can (replay es) e ≡ true
+    → is_among (held_stamps (with_edit e es)) e.stamp ≡ false
 taken-last one e es b c =
     let q : replay (with_edit e es) ≡ step (replay es) e = ap replay (last-edit e es b) ∙ one es e in
     let d : (step (replay es) e).held ≡ (replay es).held = rw c (do_op-passed e.stamp e.op (replay es)) in
@@ -73,7 +78,9 @@ taken-last one e es b c =
     ∙ ap (λ ts. is_among ts e.stamp) d
     ∙ below-not_among e.stamp (replay es).held (passed-below e.stamp empty_document es tt b)
 
-pub taken-late : FitIsEachPart → OneMoreIsOneStep → EditKeepsFit → (e : Edit) (es : List Edit) → AllFit es → Fits e → IsLate es e → can (replay es) e ≡ true → is_among (held_stamps (with_edit e es)) e.stamp ≡ false
+pub taken-late : FitIsEachPart → OneMoreIsOneStep → EditKeepsFit → (e : Edit) (es : List Edit) → AllFit es → Fits e → IsLate es e
+    → can (replay es) e ≡ true
+    → is_among (held_stamps (with_edit e es)) e.stamp ≡ false
 taken-late parts one keeps e es fit f late c = go (is_genesis e.op) refl
   where
     go : (b : Bool) → is_genesis e.op ≡ b → is_among (held_stamps (with_edit e es)) e.stamp ≡ false

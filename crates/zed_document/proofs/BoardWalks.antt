@@ -42,7 +42,9 @@ holds_at P ps k v h e = all-at P ps k v (recursion_from_All P ps h) e
 module _ (p : Plain) (ordered : IsOrdered p) (at : ℕ → Board) (places : List ℕ) (from : ℕ) (told : map at places ≡ take 101 (drop from (alive_boards p))) where
   -- member k of those told has number from + k
   pub told-at : (k : ℕ) → k < 101 → option_map at (slice_get places k) ≡ slice_get (alive_boards p) (from + k)
-  told-at k l = sym (get-image at places k) ∙ ap (λ xs. slice_get xs k) told ∙ take-get 101 k (drop from (alive_boards p)) l ∙ drop-get from k (alive_boards p)
+  told-at k l =
+      sym (get-image at places k) ∙ ap (λ xs. slice_get xs k) told ∙ take-get 101 k (drop from (alive_boards p)) l
+      ∙ drop-get from k (alive_boards p)
 
   number-is : (n : ℕ) → board_numbered p n ≡ option_map (λ b. b.id) (slice_get (alive_boards p) n)
   number-is n = numbered-so (boards_there p) (boards_there_are_apart p ordered) n
@@ -67,7 +69,8 @@ module _ (p : Plain) (ordered : IsOrdered p) (at : ℕ → Board) (places : List
           absurd (omega (arith, a, c, le))
 
   -- behind the last of 101 go on those of the next numbers
-  pub told-next : (i : ℕ) → slice_get places 100 ≡ Some i → first_of 101 (is_behind (Some (standing (at i)))) (boards_there p) ≡ take 101 (drop (from + 101) (alive_boards p))
+  pub told-next : (i : ℕ) → slice_get places 100 ≡ Some i
+      → first_of 101 (is_behind (Some (standing (at i)))) (boards_there p) ≡ take 101 (drop (from + 101) (alive_boards p))
   told-next i h =
       let there : slice_get (alive_boards p) (from + 100) ≡ Some (at i) = sym (told-at 100 (omega arith)) ∙ ap (option_map at) h in
       let e : from + 100 + 1 ≡ from + 101 = omega arith in

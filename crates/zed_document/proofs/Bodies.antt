@@ -48,10 +48,14 @@ apart e (f ∷ fs) h = go (same_stamp f.stamp e.stamp) refl (λ k. apart e fs k)
     go true q more = absurd (let bad : Some f ≡ None = rw q at h in cc)
     go false q more = (other_way f.stamp e.stamp q, more (rw q at h))
 
-pub comes : (e : Edit) (es : List Edit) (stamps : List Stamp) (stale : Bool) (b : Body) → IsKept es stamps stale b → stale ≡ false → edit_with e.stamp es ≡ None → ComesTo e es b
+pub comes : (e : Edit) (es : List Edit) (stamps : List Stamp) (stale : Bool) (b : Body) → IsKept es stamps stale b → stale ≡ false
+    → edit_with e.stamp es ≡ None
+    → ComesTo e es b
 comes e es stamps stale b k sound new = record { rising = k.rising; fit = k.fit; shows = k.shown sound; apart = apart e es new }
 
-pub is_new : (e : Edit) (es : List Edit) (stamps : List Stamp) (stale : Bool) (b : Body) → IsKept es stamps stale b → stale ≡ false → edit_with e.stamp es ≡ None → IsNewTo e b
+pub is_new : (e : Edit) (es : List Edit) (stamps : List Stamp) (stale : Bool) (b : Body) → IsKept es stamps stale b → stale ≡ false
+    → edit_with e.stamp es ≡ None
+    → IsNewTo e b
 is_new e es stamps stale b k sound new = (es, comes e es stamps stale b k sound new)
 
 -- the stamps of those held after one edit more
@@ -98,8 +102,11 @@ one_more remembered calm rises fit e es was now stale b c t k sound new fits siz
     }
 
 -- where it isn't taken after all, the stamps kept are those before
-pub not_kept : (e : Edit) (es : List Edit) (was mid now : List Stamp) (stale : Bool) (b c : Body) (t : Taken) → IsKept es was stale b → edit_with e.stamp es ≡ None
-    → mid ≡ (if t.held then insert_key stamp_cmp was e.stamp else was) → now ≡ (if t.held then remove_key (is_at (stamp_cmp e.stamp)) mid else mid) → IsEmpty c → IsKept es now true c
+pub not_kept : (e : Edit) (es : List Edit) (was mid now : List Stamp) (stale : Bool) (b c : Body) (t : Taken) → IsKept es was stale b
+    → edit_with e.stamp es ≡ None
+    → mid ≡ (if t.held then insert_key stamp_cmp was e.stamp else was)
+    → now ≡ (if t.held then remove_key (is_at (stamp_cmp e.stamp)) mid else mid) → IsEmpty c
+    → IsKept es now true c
 not_kept e es was mid now stale b c t k new put out none = record {
   fit = k.fit;
   sizes = k.sizes;
@@ -112,19 +119,24 @@ not_kept e es was mid now stale b c t k new put out none = record {
     fresh : is_among was e.stamp ≡ false
     fresh = ap (λ ts. is_among ts e.stamp) k.held ∙ new-among e es (apart e es new)
 
-    go : (h : Bool) → mid ≡ cond h (insert_key stamp_cmp was e.stamp) was → now ≡ cond h (remove_key (is_at (stamp_cmp e.stamp)) mid) mid → now ≡ was
+    go : (h : Bool) → mid ≡ cond h (insert_key stamp_cmp was e.stamp) was → now ≡ cond h (remove_key (is_at (stamp_cmp e.stamp)) mid) mid
+        → now ≡ was
     go true q r = r ∙ ap (remove_key (is_at (stamp_cmp e.stamp))) q ∙ undone e.stamp was fresh
     go false q r = r ∙ q
 
 -- and tells of the edit
-pub tells_new : (e : Edit) (es : List Edit) (b : Body) (t : Taken) (d : Delivered) → ComesTo e es b → Tells e b t → d.state ≡ state_of t.held → d.woken ≡ t.woken → TellsNew es (with_edit e es) e d
+pub tells_new : (e : Edit) (es : List Edit) (b : Body) (t : Taken) (d : Delivered) → ComesTo e es b → Tells e b t
+    → d.state ≡ state_of t.held → d.woken ≡ t.woken
+    → TellsNew es (with_edit e es) e d
 tells_new e es b t d k tells state woken =
     let told = tells es k in
     (state ∙ ap state_of told.0, woken ∙ told.1)
 
 -- ---- edits that follow one another
 
-pub all_come : RisingAreApart → (more es : List Edit) (stamps : List Stamp) (stale : Bool) (b : Body) → IsKept es stamps stale b → stale ≡ false → CanFollow es more → AllComeTo more es b
+pub all_come : RisingAreApart → (more es : List Edit) (stamps : List Stamp) (stale : Bool) (b : Body) → IsKept es stamps stale b
+    → stale ≡ false → CanFollow es more
+    → AllComeTo more es b
 all_come law more es stamps stale b k sound follow = record {
   rising = k.rising;
   fit = k.fit;
@@ -133,7 +145,9 @@ all_come law more es stamps stale b k sound follow = record {
   among = law more (follow-rising es more follow);
 }
 
-pub are_new : RisingAreApart → (more es : List Edit) (stamps : List Stamp) (stale : Bool) (b : Body) → IsKept es stamps stale b → stale ≡ false → CanFollow es more → AreNewTo more b
+pub are_new : RisingAreApart → (more es : List Edit) (stamps : List Stamp) (stale : Bool) (b : Body) → IsKept es stamps stale b
+    → stale ≡ false → CanFollow es more
+    → AreNewTo more b
 are_new law more es stamps stale b k sound follow = (es, all_come law more es stamps stale b k sound follow)
 
 sizes-union : (es more : List Edit) → HaveSizes es → HaveSizes more → HaveSizes (union es more)

@@ -33,11 +33,14 @@ same_nothing e f (x ∷ xs) same h = go (before e.stamp x.stamp) (same_stamp e.s
     go false true q more = refl
     go false false q more = ap (λ ys. x ∷ ys) (more (let tails : with_edit f xs ≡ xs = cc in tails))
 
-pub found_nothing : (e : Edit) (r : Option (Bor Edit)) (es : List Edit) → is_some r ≡ true → IfSome r (λ f. edit_with e.stamp es ≡ Some f.now) → IfSome r (λ f. with_edit f.now es ≡ es) → with_edit e es ≡ es
+pub found_nothing : (e : Edit) (r : Option (Bor Edit)) (es : List Edit) → is_some r ≡ true
+    → IfSome r (λ f. edit_with e.stamp es ≡ Some f.now) → IfSome r (λ f. with_edit f.now es ≡ es)
+    → with_edit e es ≡ es
 found_nothing e None es is some known = absurd (cc)
 found_nothing e (Some f) es is some known = same_nothing e f.now es (edit_with-stands e.stamp es f.now some).1 known
 
-pub found_none : (s : Stamp) (r : Option (Bor Edit)) (es : List Edit) → is_some r ≡ false → IfNone r (edit_with s es ≡ None) → edit_with s es ≡ None
+pub found_none : (s : Stamp) (r : Option (Bor Edit)) (es : List Edit) → is_some r ≡ false → IfNone r (edit_with s es ≡ None)
+    → edit_with s es ≡ None
 found_none s None es is none = none
 found_none s (Some f) es is none = absurd (cc)
 
@@ -49,7 +52,8 @@ one_longer e es new = go es (apart e es new)
     go [] a = omega arith
     go (f ∷ fs) a = by (before e.stamp f.stamp) (go fs a.1)
       where
-        by : (b : Bool) → length fs < length (with_edit e fs) → suc (length fs) < length (cond b (e ∷ f ∷ fs) (cond (same_stamp e.stamp f.stamp) (f ∷ fs) (f ∷ with_edit e fs)))
+        by : (b : Bool) → length fs < length (with_edit e fs)
+            → suc (length fs) < length (cond b (e ∷ f ∷ fs) (cond (same_stamp e.stamp f.stamp) (f ∷ fs) (f ∷ with_edit e fs)))
         by true more = omega arith
         by false more = rw a.0 (omega (arith, more))
 
@@ -57,7 +61,9 @@ none_before : (s : Stamp) (f : Edit) (es : List Edit) → edit_with s (with_edit
 none_before s f [] h = refl
 none_before s f (x ∷ xs) h = go (before f.stamp x.stamp) (same_stamp f.stamp x.stamp) h (none_before s f xs)
   where
-    go : (b c : Bool) → edit_with s (cond b (f ∷ x ∷ xs) (cond c (x ∷ xs) (x ∷ with_edit f xs))) ≡ None → (edit_with s (with_edit f xs) ≡ None → edit_with s xs ≡ None) → edit_with s (x ∷ xs) ≡ None
+    go : (b c : Bool) → edit_with s (cond b (f ∷ x ∷ xs) (cond c (x ∷ xs) (x ∷ with_edit f xs))) ≡ None
+        → (edit_with s (with_edit f xs) ≡ None → edit_with s xs ≡ None)
+        → edit_with s (x ∷ xs) ≡ None
     go true c h more = behind (same_stamp f.stamp s) h
       where
         behind : (t : Bool) → cond t (Some f) (edit_with s (x ∷ xs)) ≡ None → edit_with s (x ∷ xs) ≡ None

@@ -22,7 +22,8 @@ end-with b (r ∷ []) a = go (ends_before r a) refl
     go false t = rw t refl
 end-with b (r ∷ s ∷ rs) a = end-with (Some (byte_of r.stamp r.last)) (s ∷ rs) a
 
-count-behind : (b : Option ElemId) (r : ByteRange) (rs : List ByteRange) (a : ElemId) → length (with_last (r ∷ rs) a) ≡ length (r ∷ rs) + begun (end_of b (r ∷ rs)) a
+count-behind : (b : Option ElemId) (r : ByteRange) (rs : List ByteRange) (a : ElemId)
+    → length (with_last (r ∷ rs) a) ≡ length (r ∷ rs) + begun (end_of b (r ∷ rs)) a
 count-behind b r [] a = go (ends_before r a) refl
   where
     go : (t : Bool) → ends_before r a ≡ t → length (with_last (r ∷ []) a) ≡ 1 + begun (end_of b (r ∷ [])) a
@@ -38,7 +39,8 @@ count-with (r ∷ rs) a = count-behind None r rs a
 abbrev pub Counts : ℕ → Option ElemId → List TextByte → Type 0
 Counts n b xs = (n ≡ length (stretches xs)) × (b ≡ end_of None (stretches xs))
 
-pub count-next : (n : ℕ) (b : Option ElemId) (xs : List TextByte) (x : TextByte) → Counts n b xs → Counts (n + begun b x.id) (Some x.id) (xs ++ x ∷ [])
+pub count-next : (n : ℕ) (b : Option ElemId) (xs : List TextByte) (x : TextByte) → Counts n b xs
+    → Counts (n + begun b x.id) (Some x.id) (xs ++ x ∷ [])
 count-next n b xs x h = rw (stretches-behind xs x, h.0, h.1) (sym (count-with (stretches xs) x.id), sym (end-with None (stretches xs) x.id))
 
 begun-most : (b : Option ElemId) (a : ElemId) → begun b a ≤ 1

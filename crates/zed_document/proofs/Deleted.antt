@@ -34,7 +34,9 @@ kill-step : (r : ByteRange) (rs : List ByteRange) (xs : List TextByte) → outsi
 kill-step r rs [] = refl
 kill-step r rs (x ∷ xs) = go x.alive refl (is_within r x.id) refl (within_any rs x.id) refl (kill-step r rs xs)
   where
-    go : (a : Bool) → x.alive ≡ a → (w : Bool) → is_within r x.id ≡ w → (v : Bool) → within_any rs x.id ≡ v → outside rs (alive (kill r xs)) ≡ outside (r ∷ rs) (alive xs) → outside rs (alive (kill r (x ∷ xs))) ≡ outside (r ∷ rs) (alive (x ∷ xs))
+    go : (a : Bool) → x.alive ≡ a → (w : Bool) → is_within r x.id ≡ w → (v : Bool) → within_any rs x.id ≡ v
+        → outside rs (alive (kill r xs)) ≡ outside (r ∷ rs) (alive xs)
+        → outside rs (alive (kill r (x ∷ xs))) ≡ outside (r ∷ rs) (alive (x ∷ xs))
     go false a w p v q more = rw a more
     go true a true p v q more = rw (a, p) more
     go true a false p true q more = rw (a, p, q) more
@@ -51,7 +53,9 @@ more-numbers : (i x l f : ℕ) → i + 1 ≡ f → f ≤ l → (leb i x && leb x
 more-numbers i x l f e h = grind (arith)
 
 one-within : (b a : ElemId) → is_within (alone b) a ≡ same_element b a
-one-within b a = ap (λ s. s && (leb b.name.index a.name.index && leb a.name.index b.name.index)) (same_stamp-sym a.name.stamp b.name.stamp) ∙ ap (λ n. same_stamp b.name.stamp a.name.stamp && n) (one-number b.name.index a.name.index)
+one-within b a =
+    ap (λ s. s && (leb b.name.index a.name.index && leb a.name.index b.name.index)) (same_stamp-sym a.name.stamp b.name.stamp)
+    ∙ ap (λ n. same_stamp b.name.stamp a.name.stamp && n) (one-number b.name.index a.name.index)
 
 spread : (s e f : Bool) → (s && (e || f)) ≡ ((s && e) || (s && f))
 spread true e f = refl
@@ -61,7 +65,8 @@ or-assoc : (a b c : Bool) → ((a || b) || c) ≡ (a || (b || c))
 or-assoc true b c = refl
 or-assoc false b c = refl
 
-longer-within : (b : ElemId) (r : ByteRange) (a : ElemId) → goes_before b r ≡ true → r.first ≤ r.last → is_within (record r { first = b.name.index }) a ≡ (same_element b a || is_within r a)
+longer-within : (b : ElemId) (r : ByteRange) (a : ElemId) → goes_before b r ≡ true → r.first ≤ r.last
+    → is_within (record r { first = b.name.index }) a ≡ (same_element b a || is_within r a)
 longer-within b r a g h =
     let k = and_parts (same_stamp b.name.stamp r.stamp) (eqb (b.name.index + 1) r.first) g in
     let s : b.name.stamp ≡ r.stamp = same_stamp-true b.name.stamp r.stamp k.0 in
@@ -73,12 +78,14 @@ longer-within b r a g h =
 abbrev pub AreOrdered : List ByteRange → Type 0
 AreOrdered rs = AllByRecursion (λ r. r.first ≤ r.last) rs
 
-within-byte : (b : ElemId) (rs : List ByteRange) (a : ElemId) → AreOrdered rs → within_any (with_byte b rs) a ≡ (same_element b a || within_any rs a)
+within-byte : (b : ElemId) (rs : List ByteRange) (a : ElemId) → AreOrdered rs
+    → within_any (with_byte b rs) a ≡ (same_element b a || within_any rs a)
 within-byte b [] a o = ap (λ t. t || false) (one-within b a)
 within-byte b (r ∷ rs) a o = go (goes_before b r) refl
   where
     go : (t : Bool) → goes_before b r ≡ t → within_any (with_byte b (r ∷ rs)) a ≡ (same_element b a || within_any (r ∷ rs) a)
-    go true t = rw t (ap (λ w. w || within_any rs a) (longer-within b r a t o.0) ∙ or-assoc (same_element b a) (is_within r a) (within_any rs a))
+    go true t =
+        rw t (ap (λ w. w || within_any rs a) (longer-within b r a t o.0) ∙ or-assoc (same_element b a) (is_within r a) (within_any rs a))
     go false t = rw t (ap (λ w. w || within_any (r ∷ rs) a) (one-within b a))
 
 ordered-byte : (b : ElemId) (rs : List ByteRange) → AreOrdered rs → AreOrdered (with_byte b rs)
@@ -139,7 +146,8 @@ without-none zero (suc t) = refl
 without-none (suc f) zero = refl
 without-none (suc f) (suc t) = refl
 
-others-alike : (x : TextByte) (ys xs : List TextByte) → AllByRecursion (λ y. same_element x.id y.id ≡ false) xs → AllByRecursion (λ y. not (among (x ∷ ys) y.id) ≡ not (among ys y.id)) xs
+others-alike : (x : TextByte) (ys xs : List TextByte) → AllByRecursion (λ y. same_element x.id y.id ≡ false) xs
+    → AllByRecursion (λ y. not (among (x ∷ ys) y.id) ≡ not (among ys y.id)) xs
 others-alike x ys [] a = tt
 others-alike x ys (y ∷ xs) a = (ap (λ t. not (t || among ys y.id)) a.0, others-alike x ys xs a.1)
 
@@ -175,7 +183,8 @@ alike ys [] = tt
 alike ys (x ∷ xs) = (ap not (within-stretches ys x.id), alike ys xs)
 
 -- the text that is left is the one without the part
-pub left-text : (f t : ℕ) (xs : List TextByte) → f ≤ t → HaveOwnNames xs → alive_bytes (kills (stretches (part f t (alive xs))) xs) ≡ without f t (alive_bytes xs)
+pub left-text : (f t : ℕ) (xs : List TextByte) → f ≤ t → HaveOwnNames xs
+    → alive_bytes (kills (stretches (part f t (alive xs))) xs) ≡ without f t (alive_bytes xs)
 left-text f t xs l o =
     let ys : List TextByte = part f t (alive xs) in
     kills-outside (stretches ys) xs

@@ -39,9 +39,12 @@ abbrev pub IsGoodName : Plain → TextId → ℕ → ElemId → Type 0
 IsGoodName p t limit a = (has p (thing.Element t a) ≡ true) × (is_stamp a.name.stamp ≡ true) × (a.name.stamp.time < limit)
 
 abbrev pub IsGoodRange : Plain → TextId → ℕ → ByteRange → Type 0
-IsGoodRange p t limit r = IsGoodName p t limit (byte_of r.stamp r.first) × IsGoodName p t limit (byte_of r.stamp r.last) × (r.first ≤ r.last)
+IsGoodRange p t limit r =
+    IsGoodName p t limit (byte_of r.stamp r.first) × IsGoodName p t limit (byte_of r.stamp r.last) × (r.first ≤ r.last)
 
-good-byte : (p : Plain) (t : TextId) (limit : ℕ) (a : ElemId) (rs : List ByteRange) → IsGoodName p t limit a → AllByRecursion (IsGoodRange p t limit) rs → AllByRecursion (IsGoodRange p t limit) (with_byte a rs)
+good-byte : (p : Plain) (t : TextId) (limit : ℕ) (a : ElemId) (rs : List ByteRange) → IsGoodName p t limit a
+    → AllByRecursion (IsGoodRange p t limit) rs
+    → AllByRecursion (IsGoodRange p t limit) (with_byte a rs)
 good-byte p t limit a [] g h = ((g, g, omega arith), tt)
 good-byte p t limit a (r ∷ rs) g h = go (goes_before a r) refl
   where
@@ -55,11 +58,14 @@ good-byte p t limit a (r ∷ rs) g h = go (goes_before a r) refl
         rw b ((first, h.0.1, omega arith), h.1)
     go false b = rw b ((g, g, omega arith), h)
 
-pub good-stretches : (p : Plain) (t : TextId) (limit : ℕ) (ys : List TextByte) → AllByRecursion (λ y. IsGoodName p t limit y.id) ys → AllByRecursion (IsGoodRange p t limit) (stretches ys)
+pub good-stretches : (p : Plain) (t : TextId) (limit : ℕ) (ys : List TextByte) → AllByRecursion (λ y. IsGoodName p t limit y.id) ys
+    → AllByRecursion (IsGoodRange p t limit) (stretches ys)
 good-stretches p t limit [] h = tt
 good-stretches p t limit (y ∷ ys) h = good-byte p t limit y.id (stretches ys) h.0 (good-stretches p t limit ys h.1)
 
-stay-good : (p q : Plain) (t : TextId) (limit : ℕ) (rs : List ByteRange) → ((x : Thing) → has p x ≡ true → has q x ≡ true) → AllByRecursion (IsGoodRange p t limit) rs → AllByRecursion (IsGoodRange q t limit) rs
+stay-good : (p q : Plain) (t : TextId) (limit : ℕ) (rs : List ByteRange) → ((x : Thing) → has p x ≡ true → has q x ≡ true)
+    → AllByRecursion (IsGoodRange p t limit) rs
+    → AllByRecursion (IsGoodRange q t limit) rs
 stay-good p q t limit [] stays h = tt
 stay-good p q t limit (r ∷ rs) stays h = (
   (
@@ -77,7 +83,9 @@ abbrev deletion_at : ℕ → ℕ → TextId → ByteRange → Edit
 deletion_at time replica t r = record { stamp = record { time = time; replica = replica }; op = TextDelete t r }
 
 -- such a deletion fits
-deletion-fits : FitIsEachPart → (time replica limit : ℕ) (p : Plain) (t : TextId) (r : ByteRange) → 2 ≤ time → time ≤ LAST_TIME → 1 ≤ replica → limit ≤ time → is_stamp t.name.stamp ≡ true → t.name.stamp.time < limit → IsGoodRange p t limit r → Fits (deletion_at time replica t r)
+deletion-fits : FitIsEachPart → (time replica limit : ℕ) (p : Plain) (t : TextId) (r : ByteRange) → 2 ≤ time → time ≤ LAST_TIME
+    → 1 ≤ replica → limit ≤ time → is_stamp t.name.stamp ≡ true → t.name.stamp.time < limit → IsGoodRange p t limit r
+    → Fits (deletion_at time replica t r)
 deletion-fits parts time replica limit p t r low high own l ts tl g =
     let s : Stamp = record { time = time; replica = replica } in
     let a = leb-of 2 time low in
@@ -88,8 +96,10 @@ deletion-fits parts time replica limit p t r low high own l ts tl g =
     let tb = before_later t.name.stamp s (omega arith) in
     let rl = g.0.2 in
     let rb = before_later r.stamp s (omega arith) in
-    let named : (is_stamp t.name.stamp && (is_stamp r.stamp && (is_stamp r.stamp && true))) ≡ true = and_from _ _ ts (and_from _ _ rs (and_from _ _ rs refl)) in
-    let earlier : (before t.name.stamp s && (before r.stamp s && (before r.stamp s && true))) ≡ true = and_from _ _ tb (and_from _ _ rb (and_from _ _ rb refl)) in
+    let named : (is_stamp t.name.stamp && (is_stamp r.stamp && (is_stamp r.stamp && true))) ≡ true =
+    and_from _ _ ts (and_from _ _ rs (and_from _ _ rs refl)) in
+    let earlier : (before t.name.stamp s && (before r.stamp s && (before r.stamp s && true))) ≡ true =
+    and_from _ _ tb (and_from _ _ rb (and_from _ _ rb refl)) in
     (parts (deletion_at time replica t r)).1 (and_from _ _ mine named, leb-of r.first r.last g.2, earlier, refl)
 
 greatest-push : (es : List Edit) (e : Edit) (n : ℕ) → greatest_time es < n → e.stamp.time < n → greatest_time (es ++ e ∷ []) < n
@@ -97,7 +107,12 @@ greatest-push [] e n h k = omega arith
 greatest-push (f ∷ es) e n h k = let more = greatest-push es e n (omega arith) k in omega arith
 
 -- deletions of good ranges follow one another, and kill them
-pub follow-all : FitIsEachPart → OneMoreIsOneStep → MadeStaysMade → (rs : List ByteRange) (es : List Edit) (time replica limit : ℕ) (t : TextId) → greatest_time es < time → 2 ≤ time → limit ≤ time → time + length rs ≤ 281474976710656 → 1 ≤ replica → is_stamp t.name.stamp ≡ true → t.name.stamp.time < limit → has (replay es) (thing.Text t) ≡ true → AllByRecursion (IsGoodRange (replay es) t limit) rs → CanFollow es (deletions time replica t rs) × (elements (replay (es ++ deletions time replica t rs)) t ≡ kills rs (elements (replay es) t))
+pub follow-all : FitIsEachPart → OneMoreIsOneStep → MadeStaysMade
+    → (rs : List ByteRange) (es : List Edit) (time replica limit : ℕ) (t : TextId) → greatest_time es < time → 2 ≤ time → limit ≤ time
+    → time + length rs ≤ 281474976710656 → 1 ≤ replica → is_stamp t.name.stamp ≡ true → t.name.stamp.time < limit
+    → has (replay es) (thing.Text t) ≡ true → AllByRecursion (IsGoodRange (replay es) t limit) rs
+    → CanFollow es (deletions time replica t rs)
+    × (elements (replay (es ++ deletions time replica t rs)) t ≡ kills rs (elements (replay es) t))
 follow-all parts one stays [] es time replica limit t g low l high own ts tl h a = (tt, ap (λ fs. elements (replay fs) t) (append-nil es))
 follow-all parts one stays (r ∷ rs) es time replica limit t g low l high own ts tl h a =
     let f : Edit = deletion_at time replica t r in
@@ -106,8 +121,10 @@ follow-all parts one stays (r ∷ rs) es time replica limit t g low l high own t
     let c : can (replay es) f ≡ true = rw (h, first, last) refl in
     let below : AllBelow f.stamp es = later-all f.stamp es g in
     let fits : Fits f = deletion-fits parts time replica limit (replay es) t r low (omega arith) own l ts tl a.0 in
-    let stepped : replay (es ++ f ∷ []) ≡ do_edit (replay es) f = one es f ∙ ap (λ b. cond b (do_edit (replay es) f) (hold (replay es) f)) c in
-    let stay : (x : Thing) → has (replay es) x ≡ true → has (replay (es ++ f ∷ [])) x ≡ true = λ x k. subst (λ (p : Plain). has p x ≡ true) (sym (one es f)) (stays (replay es) f x k) in
+    let stepped : replay (es ++ f ∷ []) ≡ do_edit (replay es) f =
+    one es f ∙ ap (λ b. cond b (do_edit (replay es) f) (hold (replay es) f)) c in
+    let stay : (x : Thing) → has (replay es) x ≡ true → has (replay (es ++ f ∷ [])) x ≡ true =
+    λ x k. subst (λ (p : Plain). has p x ≡ true) (sym (one es f)) (stays (replay es) f x k) in
     let g' : greatest_time (es ++ f ∷ []) < time + 1 = greatest-push es f (time + 1) (omega arith) (omega arith) in
     let more = follow-all parts one stays rs (es ++ f ∷ []) (time + 1) replica limit t g' (omega arith) (omega arith) (omega arith) own ts tl (stay (thing.Text t) h) (stay-good (replay es) (replay (es ++ f ∷ [])) t limit rs stay a.1) in
     let changed : elements (do_edit (replay es) f) t ≡ kill r (elements (replay es) t) = changed-text t (kill r) (replay es).texts h in (
@@ -120,7 +137,8 @@ or_true : (b : Bool) → (b || true) ≡ true
 or_true true = refl
 or_true false = refl
 
-there-more : (x : TextByte) (xs ys : List TextByte) → AllByRecursion (λ y. list_any (λ z. same_element z.id y.id) xs ≡ true) ys → AllByRecursion (λ y. list_any (λ z. same_element z.id y.id) (x ∷ xs) ≡ true) ys
+there-more : (x : TextByte) (xs ys : List TextByte) → AllByRecursion (λ y. list_any (λ z. same_element z.id y.id) xs ≡ true) ys
+    → AllByRecursion (λ y. list_any (λ z. same_element z.id y.id) (x ∷ xs) ≡ true) ys
 there-more x xs [] h = tt
 there-more x xs (y ∷ ys) h = let k = h.0 in (rw k (or_true (same_element x.id y.id)), there-more x xs ys h.1)
 
@@ -141,13 +159,19 @@ all-earlier parts (e ∷ es) limit f g =
     let own = (and_parts (is_own_stamp e.op e.stamp) _ ((parts e).0 f.0).0).0 in
     (and_from (is_stamp e.stamp) (ltb e.stamp.time limit) (own_stamp e.op e.stamp own) (ltb-of e.stamp.time limit (omega arith)), all-earlier parts es limit f.1 (omega arith))
 
-names-good : (p : Plain) (t : TextId) (limit : ℕ) (xs : List TextByte) → AllByRecursion (λ y. has p (thing.Element t y.id) ≡ true) xs → AllByRecursion (λ y. is_earlier limit y.id.name.stamp ≡ true) xs → AllByRecursion (λ y. IsGoodName p t limit y.id) xs
+names-good : (p : Plain) (t : TextId) (limit : ℕ) (xs : List TextByte) → AllByRecursion (λ y. has p (thing.Element t y.id) ≡ true) xs
+    → AllByRecursion (λ y. is_earlier limit y.id.name.stamp ≡ true) xs
+    → AllByRecursion (λ y. IsGoodName p t limit y.id) xs
 names-good p t limit [] h k = tt
 names-good p t limit (y ∷ ys) h k =
     let e = and_parts (is_stamp y.id.name.stamp) (ltb y.id.name.stamp.time limit) k.0 in
     ((h.0, e.0, ltb-true y.id.name.stamp.time limit e.1), names-good p t limit ys h.1 k.1)
 
-pub follow-part : FitIsEachPart → OneMoreIsOneStep → MadeStaysMade → ElementsHaveOwnNames → ElementsAreOfEdits → TextsAreOfEdits → (es : List Edit) (replica : ℕ) (t : TextId) (from to : ℕ) → AllFit es → IsRising es → has (replay es) (thing.Text t) ≡ true → is_part from to (length (text (replay es) t)) ≡ true → is_spent es (length (stretches_of es t from to)) ≡ false → 1 ≤ replica → CanFollow es (deletions_of es replica t from to) × (text (replay (es ++ deletions_of es replica t from to)) t ≡ without from to (text (replay es) t))
+pub follow-part : FitIsEachPart → OneMoreIsOneStep → MadeStaysMade → ElementsHaveOwnNames → ElementsAreOfEdits → TextsAreOfEdits
+    → (es : List Edit) (replica : ℕ) (t : TextId) (from to : ℕ) → AllFit es → IsRising es → has (replay es) (thing.Text t) ≡ true
+    → is_part from to (length (text (replay es) t)) ≡ true → is_spent es (length (stretches_of es t from to)) ≡ false → 1 ≤ replica
+    → CanFollow es (deletions_of es replica t from to)
+    × (text (replay (es ++ deletions_of es replica t from to)) t ≡ without from to (text (replay es) t))
 follow-part parts one stays names made texts es replica t from to fit rises h is left own =
     let p : Plain = replay es in
     let xs : List TextByte = elements p t in
@@ -184,7 +208,8 @@ stretches-some : (ys : List TextByte) → 0 < length ys → 0 < length (stretche
 stretches-some [] l = absurd (omega arith)
 stretches-some (y ∷ ys) l = byte-some y.id (stretches ys)
 
-pub some-stretch : (es : List Edit) (t : TextId) (from to : ℕ) → is_part from to (length (text (replay es) t)) ≡ true → 0 < length (stretches_of es t from to)
+pub some-stretch : (es : List Edit) (t : TextId) (from to : ℕ) → is_part from to (length (text (replay es) t)) ≡ true
+    → 0 < length (stretches_of es t from to)
 some-stretch es t from to is =
     let xs : List TextByte = alive (elements (replay es) t) in
     let k = and_parts (ltb from to) (leb to (length (text (replay es) t))) is in

@@ -56,7 +56,8 @@ new_agrees has es e agrees none a b m n same =
     other x h = none_found e.stamp (set_of es) x none ((has es agrees x).1 h)
 
 -- an edit that is there agrees with the others
-known_agrees : SetHasItsEdits → (es : List Edit) (e f : Edit) → Agrees es → edit_with e.stamp (set_of es) ≡ Some f → f ≡ e → Agrees (es ++ e ∷ [])
+known_agrees : SetHasItsEdits → (es : List Edit) (e f : Edit) → Agrees es → edit_with e.stamp (set_of es) ≡ Some f → f ≡ e
+    → Agrees (es ++ e ∷ [])
 known_agrees has es e f agrees found is a b m n same = agrees a b (within a m) (within b n) same
   where
     there : Contains es e
@@ -66,7 +67,9 @@ known_agrees has es e f agrees found is a b m n same = agrees a b (within a m) (
     within x h = elim (Contains-append_cases es (e ∷ []) x h) [ inl k ↦ k | inr k ↦ subst (Contains es) (only e x k) there ]
 
 -- an edit that was delivered agrees with those before it
-took : SetHasItsEdits → (es ds : List Edit) (e : Edit) (told : Delivered) → ds ≡ set_of es → Agrees es → AnswersAt (edit_with e.stamp ds) ds e (Ok told) → Agrees (es ++ e ∷ [])
+took : SetHasItsEdits → (es ds : List Edit) (e : Edit) (told : Delivered) → ds ≡ set_of es → Agrees es
+    → AnswersAt (edit_with e.stamp ds) ds e (Ok told)
+    → Agrees (es ++ e ∷ [])
 took has es ds e told is agrees h = go (edit_with e.stamp ds) (ap (edit_with e.stamp) (sym is)) h
   where
     go : (o : Option Edit) → edit_with e.stamp (set_of es) ≡ o → AnswersAt o ds e (Ok told) → Agrees (es ++ e ∷ [])
@@ -84,7 +87,9 @@ told_as x = Err x
 same_refusal : (x y : DocumentError) → told_as x ≡ told_as y → x ≡ y
 same_refusal x y same = cc
 
-refused : SetHasItsEdits → (es ds : List Edit) (e : Edit) (x : DocumentError) → ds ≡ set_of es → Agrees es → AnswersAt (edit_with e.stamp ds) ds e (Err x) → IsClash es e x
+refused : SetHasItsEdits → (es ds : List Edit) (e : Edit) (x : DocumentError) → ds ≡ set_of es → Agrees es
+    → AnswersAt (edit_with e.stamp ds) ds e (Err x)
+    → IsClash es e x
 refused has es ds e x is agrees h = go (edit_with e.stamp ds) (ap (edit_with e.stamp) (sym is)) h
   where
     go : (o : Option Edit) → edit_with e.stamp (set_of es) ≡ o → AnswersAt o ds e (Err x) → IsClash es e x

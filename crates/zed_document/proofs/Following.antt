@@ -31,7 +31,8 @@ follow-fit es [] h = tt
 follow-fit es (f ∷ fs) h = let n = h.0 in (n.1, follow-fit (es ++ f ∷ []) fs h.1)
 
 -- an edit that comes before all that come after some comes before those that follow these
-later : (f : Edit) (es gs : List Edit) → ((s : Stamp) → AllBelow s es → before f.stamp s ≡ true) → CanFollow es gs → AllByRecursion (λ g. before f.stamp g.stamp ≡ true) gs
+later : (f : Edit) (es gs : List Edit) → ((s : Stamp) → AllBelow s es → before f.stamp s ≡ true) → CanFollow es gs
+    → AllByRecursion (λ g. before f.stamp g.stamp ≡ true) gs
 later f es [] low h = tt
 later f es (g ∷ gs) low h =
     let n = h.0 in

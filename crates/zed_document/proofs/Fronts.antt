@@ -46,7 +46,8 @@ pub lacked : (x : DocumentError) → refused x ≡ Err Memory → not_told x ≡
 lacked x lacks = let same : x ≡ Memory = cc in ap not_told same
 
 -- one that was accepted is free
-accepted_free : (o : Option Edit) (es : List Edit) (e : Edit) (d : Delivered) → o ≡ edit_with e.stamp es → AnswersAt o es e (Ok d) → IsFree es e
+accepted_free : (o : Option Edit) (es : List Edit) (e : Edit) (d : Delivered) → o ≡ edit_with e.stamp es → AnswersAt o es e (Ok d)
+    → IsFree es e
 accepted_free None es e d is a = rw (← is) tt
 accepted_free (Some f) es e d is a =
     elim a [
@@ -58,7 +59,9 @@ accepted_free (Some f) es e d is a =
 pub front_has_new : (d : Replica) (es left : List Edit) → d.is_stale ≡ false → AllFit es → DeliversFront d es left → HasNew d.edits es
 front_has_new d es left sound fit (n, each, new) = go n d es sound fit each new
   where
-    go : (n : ℕ) (d : Replica) (es : List Edit) → d.is_stale ≡ false → AllFit es → DeliversEach d (take n es) (Ok tt) left → IsSomeAnd (slice_get es n) (λ e. edit_with e.stamp left ≡ None) → HasNew d.edits es
+    go : (n : ℕ) (d : Replica) (es : List Edit) → d.is_stale ≡ false → AllFit es → DeliversEach d (take n es) (Ok tt) left
+        → IsSomeAnd (slice_get es n) (λ e. edit_with e.stamp left ≡ None)
+        → HasNew d.edits es
     go n d [] sound fit each new = new
     go zero d (e ∷ es) sound fit each new = inl (ap (edit_with e.stamp) (sym each.1) ∙ new)
     go (suc n) d (e ∷ es) sound fit (inl one) new =
@@ -67,13 +70,15 @@ front_has_new d es left sound fit (n, each, new) = go n d es sound fit each new
     go (suc n) d (e ∷ es) sound fit (inr clash) new = absurd (let done : Delivery = Ok tt in let no : done ≡ refused clash.0 = clash.2 in cc)
 
 -- a document after one edit more, but for its counts
-after_is : (m n : Replica) (e : Edit) → n.world ≡ m.world → n.edits ≡ with_edit e m.edits → n.is_stale ≡ m.is_stale → n ≡ with_counts n.counts (after_edit e m)
+after_is : (m n : Replica) (e : Edit) → n.world ≡ m.world → n.edits ≡ with_edit e m.edits → n.is_stale ≡ m.is_stale
+    → n ≡ with_counts n.counts (after_edit e m)
 after_is m n e w es s =
     let make : ℕ → List Edit → Bool → Replica = λ w es s. record { world = w; edits = es; is_stale = s; counts = n.counts } in
     let path : make n.world n.edits n.is_stale ≡ make m.world (with_edit e m.edits) m.is_stale = rw (w, es, s) refl in path
 
 -- one edit was delivered, and then others
-one_then : (m n : Replica) (e : Edit) (told : Delivered) (es : List Edit) (r : Delivery) (left : List Edit) → n.world ≡ m.world → n.edits ≡ with_edit e m.edits → n.is_stale ≡ m.is_stale
+one_then : (m n : Replica) (e : Edit) (told : Delivered) (es : List Edit) (r : Delivery) (left : List Edit) → n.world ≡ m.world
+    → n.edits ≡ with_edit e m.edits → n.is_stale ≡ m.is_stale
     → Answers m e (Ok told) → DeliversEach n es r left → DeliversEach m (e ∷ es) r left
 one_then m n e told es r left w edits s answer more =
     inl (told, answer, delivers_aside n.counts (after_edit e m) es r left (subst (λ d. DeliversEach d es r left) (after_is m n e w edits s) more))
@@ -88,14 +93,16 @@ pub record IsGoing (d : Replica) (all : List Edit) (m : Replica) (rest : List Ed
   pub falls : NoCountFalls d.counts m.counts
 
 pub going_begins : (d : Replica) (all : List Edit) → d.is_stale ≡ false → AllFit all → IsGoing d all d all
-going_begins d all sound fit = record { each = λ r left h. h; front = λ left h. h; fit = fit; sound = sound; world = refl; falls = falls_not d.counts }
+going_begins d all sound fit =
+    record { each = λ r left h. h; front = λ left h. h; fit = fit; sound = sound; world = refl; falls = falls_not d.counts }
 
 pub next_fits : (d m : Replica) (all others rest : List Edit) (e : Edit) → IsGoing d all m others → others ≡ e ∷ rest → Fits e
 next_fits d m all others rest e was split = (subst AllFit split was.fit).0
 
 -- one edit more was delivered
 pub going_on : (d m n : Replica) (all others rest : List Edit) (e : Edit) (told : Delivered) → IsGoing d all m others → others ≡ e ∷ rest
-    → (told_as told ≡ Err Memory) ⊎ Answers m e (Ok told) → n.edits ≡ with_edit e m.edits → n.world ≡ m.world → n.is_stale ≡ false → NoCountFalls m.counts n.counts
+    → (told_as told ≡ Err Memory) ⊎ Answers m e (Ok told) → n.edits ≡ with_edit e m.edits → n.world ≡ m.world → n.is_stale ≡ false
+    → NoCountFalls m.counts n.counts
     → IsGoing d all n rest
 going_on d m n all others rest e told was split (inl lacks) edits world sound falls = absurd (let no : told_as told ≡ not_told Memory = lacks in cc)
 going_on d m n all others rest e told was split (inr answer) edits world sound falls = go (subst (λ es. IsGoing d all m es) split was)
@@ -113,7 +120,8 @@ going_on d m n all others rest e told was split (inr answer) edits world sound f
         }
 
 -- the next edit was refused
-pub going_ends : (d m : Replica) (all others rest left : List Edit) (e : Edit) (x : DocumentError) → IsGoing d all m others → others ≡ e ∷ rest
+pub going_ends : (d m : Replica) (all others rest left : List Edit) (e : Edit) (x : DocumentError) → IsGoing d all m others
+    → others ≡ e ∷ rest
     → (not_told x ≡ Err Memory) ⊎ Answers m e (Err x) → left ≡ m.edits
     → (refused x ≡ Err Memory) ⊎ DeliversEach d all (Err x) left
 going_ends d m all others rest left e x was split (inl lacks) kept = inl (let same : x ≡ Memory = cc in ap refused same)
@@ -121,7 +129,8 @@ going_ends d m all others rest left e x was split (inr answer) kept =
     inr (was.each (Err x) left (subst (λ es. DeliversEach m es (Err x) left) (sym split) (inr (x, answer, refl, kept))))
 
 -- then nothing changed, unless memory lacked and left the document stale
-pub stays_sound : (m n : Replica) (e : Edit) (x : DocumentError) → m.is_stale ≡ false → Fits e → (not_told x ≡ Err Memory) ⊎ Answers m e (Err x)
+pub stays_sound : (m n : Replica) (e : Edit) (x : DocumentError) → m.is_stale ≡ false → Fits e
+    → (not_told x ≡ Err Memory) ⊎ Answers m e (Err x)
     → (not_told x ≡ Err Memory → n.is_stale ≡ false → n ≡ m) → ((not_told x ≢ Err Memory) → n ≡ m) → n.is_stale ≡ false → n ≡ m
 stays_sound m n e x sound fits (inl lacks) refuses kept calm = refuses lacks calm
 stays_sound m n e x sound fits (inr answer) refuses kept calm = kept (clashed (edit_with e.stamp m.edits) at_stamp)

@@ -57,7 +57,8 @@ earlier-differs a b h = go (same_text b a) refl
         absurd (cc)
 
 -- what holds of each, from what holds of each and of it
-all-from : {X : Type 0} (P Q R : X → Type 0) (xs : List X) → ((x : X) → P x → Q x → R x) → AllByRecursion P xs → AllByRecursion Q xs → AllByRecursion R xs
+all-from : {X : Type 0} (P Q R : X → Type 0) (xs : List X) → ((x : X) → P x → Q x → R x) → AllByRecursion P xs → AllByRecursion Q xs
+    → AllByRecursion R xs
 all-from P Q R [] f a b = tt
 all-from P Q R (x ∷ xs) f a b = (f x a.0 b.0, all-from P Q R xs f a.1 b.1)
 
@@ -83,7 +84,9 @@ other-name t u v s later = subst (λ w. same_text w v ≡ false) (sym (same_text
         absurd (cc)
 
 -- what stands under one name in a sum, where no other has the name
-none-named : {X : Type 0} (t : TextId) (n : ℕ) (x : TextId × X) (xs : List (TextId × X)) → same_text t x.0 ≡ true → AllByRecursion (λ y. is_earlier (x.0).name (y.0).name ≡ true) xs → sum_by (λ y. cond (same_text t y.0) n 0) xs ≡ 0
+none-named : {X : Type 0} (t : TextId) (n : ℕ) (x : TextId × X) (xs : List (TextId × X)) → same_text t x.0 ≡ true
+    → AllByRecursion (λ y. is_earlier (x.0).name (y.0).name ≡ true) xs
+    → sum_by (λ y. cond (same_text t y.0) n 0) xs ≡ 0
 none-named t n x [] s a = refl
 none-named t n x (y ∷ xs) s a =
     let here = other-name t x.0 y.0 s a.0 in
@@ -99,7 +102,8 @@ one-named t n (x ∷ xs) r = go (same_text t x.0) refl (one-named t n xs r.1)
     all : sum_by (λ z. cond (same_text t z.0) n 0) (x ∷ xs) ≡ cond (same_text t x.0) n 0 + sum_by (λ z. cond (same_text t z.0) n 0) xs
     all = sum_by-cons (λ z. cond (same_text t z.0) n 0) x xs
 
-    go : (b : Bool) → same_text t x.0 ≡ b → sum_by (λ y. cond (same_text t y.0) n 0) xs ≤ n → sum_by (λ y. cond (same_text t y.0) n 0) (x ∷ xs) ≤ n
+    go : (b : Bool) → same_text t x.0 ≡ b → sum_by (λ y. cond (same_text t y.0) n 0) xs ≤ n
+        → sum_by (λ y. cond (same_text t y.0) n 0) (x ∷ xs) ≤ n
     go true q more =
         let first : cond (same_text t x.0) n 0 ≡ n = ap (λ b. cond b n 0) q in
         let rest = none-named t n x xs q r.0 in
@@ -108,14 +112,17 @@ one-named t n (x ∷ xs) r = go (same_text t x.0) refl (one-named t n xs r.1)
         let first : cond (same_text t x.0) n 0 ≡ 0 = ap (λ b. cond b n 0) q in
         omega (arith, first, more, all)
 
-there-named : {X : Type 0} (t : TextId) (n : ℕ) (xs : List (TextId × X)) (v : X) → Rise xs → text_in t xs ≡ Some v → sum_by (λ y. cond (same_text t y.0) n 0) xs ≡ n
+there-named : {X : Type 0} (t : TextId) (n : ℕ) (xs : List (TextId × X)) (v : X) → Rise xs → text_in t xs ≡ Some v
+    → sum_by (λ y. cond (same_text t y.0) n 0) xs ≡ n
 there-named t n [] v r h = absurd (cc)
 there-named t n (x ∷ xs) v r h = go (same_text t x.0) refl h (λ k. there-named t n xs v r.1 k)
   where
     all : sum_by (λ z. cond (same_text t z.0) n 0) (x ∷ xs) ≡ cond (same_text t x.0) n 0 + sum_by (λ z. cond (same_text t z.0) n 0) xs
     all = sum_by-cons (λ z. cond (same_text t z.0) n 0) x xs
 
-    go : (b : Bool) → same_text t x.0 ≡ b → cond b (Some x.1) (text_in t xs) ≡ Some v → (text_in t xs ≡ Some v → sum_by (λ y. cond (same_text t y.0) n 0) xs ≡ n) → sum_by (λ y. cond (same_text t y.0) n 0) (x ∷ xs) ≡ n
+    go : (b : Bool) → same_text t x.0 ≡ b → cond b (Some x.1) (text_in t xs) ≡ Some v
+        → (text_in t xs ≡ Some v → sum_by (λ y. cond (same_text t y.0) n 0) xs ≡ n)
+        → sum_by (λ y. cond (same_text t y.0) n 0) (x ∷ xs) ≡ n
     go true q k more =
         let first : cond (same_text t x.0) n 0 ≡ n = ap (λ b. cond b n 0) q in
         let rest = none-named t n x xs q r.0 in
@@ -143,13 +150,16 @@ zeros : {X : Type 0} (xs : List X) → sum_by (λ x. 0) xs ≡ 0
 zeros [] = refl
 zeros (x ∷ xs) = let all = sum_by-cons (λ y. 0) x xs in let more = zeros xs in omega (arith, all, more)
 
-not-behind : (t : TextId) (x : TextId × ℕ) (xs : Counts) → same_text t x.0 ≡ true → AllByRecursion (λ y. is_earlier (x.0).name (y.0).name ≡ true) xs → text_in t xs ≡ None
+not-behind : (t : TextId) (x : TextId × ℕ) (xs : Counts) → same_text t x.0 ≡ true
+    → AllByRecursion (λ y. is_earlier (x.0).name (y.0).name ≡ true) xs
+    → text_in t xs ≡ None
 not-behind t x [] s a = refl
 not-behind t x (y ∷ xs) s a =
     let here = other-name t x.0 y.0 s a.0 in
     rw here (not-behind t x xs s a.1)
 
-first-or-behind : (t : TextId) (x : TextId × ℕ) (xs : Counts) → AllByRecursion (λ y. is_earlier (x.0).name (y.0).name ≡ true) xs → cond (same_text x.0 t) x.1 0 + count_of t xs ≡ count_of t (x ∷ xs)
+first-or-behind : (t : TextId) (x : TextId × ℕ) (xs : Counts) → AllByRecursion (λ y. is_earlier (x.0).name (y.0).name ≡ true) xs
+    → cond (same_text x.0 t) x.1 0 + count_of t xs ≡ count_of t (x ∷ xs)
 first-or-behind t x xs a = go (same_text t x.0) refl
   where
     go : (b : Bool) → same_text t x.0 ≡ b → cond (same_text x.0 t) x.1 0 + count_of t xs ≡ or_zero (cond b (Some x.1) (text_in t xs))
@@ -193,7 +203,8 @@ in-counts : (t : TextId) (ys : Texts) → text_in t (counts_of ys) ≡ option_ma
 in-counts t [] = refl
 in-counts t (y ∷ ys) = go (same_text t y.0) (in-counts t ys)
   where
-    go : (b : Bool) → text_in t (counts_of ys) ≡ option_map (λ x. x.visits) (text_in t ys) → cond b (Some y.1.visits) (text_in t (counts_of ys)) ≡ option_map (λ x. x.visits) (cond b (Some y.1) (text_in t ys))
+    go : (b : Bool) → text_in t (counts_of ys) ≡ option_map (λ x. x.visits) (text_in t ys)
+        → cond b (Some y.1.visits) (text_in t (counts_of ys)) ≡ option_map (λ x. x.visits) (cond b (Some y.1) (text_in t ys))
     go true more = refl
     go false more = more
 
@@ -226,13 +237,15 @@ counts-stay xs ys r falls =
     all-mapped (λ y. (y.0, y.1.visits)) (λ x. (v : ℕ) × (text_in x.0 (counts_of ys) ≡ Some v)) xs
     (all_weaker (λ x. text_in x.0 xs ≡ Some x.1) (λ x. (v : ℕ) × (text_in x.0 (counts_of ys) ≡ Some v)) xs (λ x f. go x f (text_in x.0 ys) refl) (each-found xs r))
   where
-    go : (x : TextId × Shown) → text_in x.0 xs ≡ Some x.1 → (p : Option Shown) → text_in x.0 ys ≡ p → (v : ℕ) × (text_in x.0 (counts_of ys) ≡ Some v)
+    go : (x : TextId × Shown) → text_in x.0 xs ≡ Some x.1 → (p : Option Shown) → text_in x.0 ys ≡ p
+        → (v : ℕ) × (text_in x.0 (counts_of ys) ≡ Some v)
     go x f (Some z) q = (z.visits, in-counts x.0 ys ∙ ap (option_map (λ y. y.visits)) q)
     go x f None q =
         let l : IsNoLess (Some x.1) (text_in x.0 ys) = subst (λ o. IsNoLess o (text_in x.0 ys)) f (falls x.0) in
         absurd (subst (IsNoLess (Some x.1)) q l)
 
-pub sum-law : (xs ys : Texts) → Rise xs → Rise ys → NoneFalls xs ys → added (counts_of xs) (counts_of ys) + total (counts_of xs) ≡ total (counts_of ys)
+pub sum-law : (xs ys : Texts) → Rise xs → Rise ys → NoneFalls xs ys
+    → added (counts_of xs) (counts_of ys) + total (counts_of xs) ≡ total (counts_of ys)
 sum-law xs ys r s falls = total-added (counts_of xs) (counts_of ys) (counts-rise xs r) (counts-rise ys s) (counts-stay xs ys r falls) (counts-fall-not xs ys falls)
 
 -- ---- an edit that wakes none
@@ -241,27 +254,33 @@ few-looks : (n v k m : ℕ) → n ≤ 2 * m + 1 → k ≤ n + 1 → raised v k -
 few-looks n v k m a b = omega (arith, a, b)
 
 -- at most so many more under each name
-added-most : (xs ys : Texts) (most : TextId → ℕ) → Rise ys → ((y : TextId × Shown) → text_in y.0 ys ≡ Some y.1 → y.1.visits - looks (text_in y.0 xs) ≤ most y.0) → added (counts_of xs) (counts_of ys) ≤ sum_by (λ z. most z.0) (counts_of ys)
+added-most : (xs ys : Texts) (most : TextId → ℕ) → Rise ys
+    → ((y : TextId × Shown) → text_in y.0 ys ≡ Some y.1 → y.1.visits - looks (text_in y.0 xs) ≤ most y.0)
+    → added (counts_of xs) (counts_of ys) ≤ sum_by (λ z. most z.0) (counts_of ys)
 added-most xs ys most s each =
     sums-le (λ z. z.1 - count_of z.0 (counts_of xs)) (λ z. most z.0) (counts_of ys)
     (all-mapped (λ y. (y.0, y.1.visits)) (λ z. z.1 - count_of z.0 (counts_of xs) ≤ most z.0) ys
     (all_weaker (λ y. text_in y.0 ys ≡ Some y.1) (λ y. y.1.visits - count_of y.0 (counts_of xs) ≤ most y.0) ys
     (λ y f. subst (λ n. y.1.visits - n ≤ most y.0) (sym (count-is y.0 xs)) (each y f)) (each-found ys s)))
 
-pub most-one : (t : TextId) (n : ℕ) (xs ys : Texts) → Rise ys → AllGrow (λ i. same_text t i) xs ys → HasFew n (text_in t xs) → added (counts_of xs) (counts_of ys) ≤ 2 * n + 2
+pub most-one : (t : TextId) (n : ℕ) (xs ys : Texts) → Rise ys → AllGrow (λ i. same_text t i) xs ys → HasFew n (text_in t xs)
+    → added (counts_of xs) (counts_of ys) ≤ 2 * n + 2
 most-one t n xs ys s grow few =
     let all = added-most xs ys (λ i. cond (same_text t i) (2 * n + 2) 0) s (λ y f. go y (same_text t y.0) refl (text_in y.0 xs) refl (subst (Grows (same_text t y.0) (text_in y.0 xs)) f (grow y.0))) in
     let one = one-named t (2 * n + 2) (counts_of ys) (counts-rise ys s) in
     omega (arith, all, one)
   where
-    go : (y : TextId × Shown) (c : Bool) → same_text t y.0 ≡ c → (o : Option Shown) → text_in y.0 xs ≡ o → Grows (same_text t y.0) o (Some y.1) → y.1.visits - looks o ≤ cond (same_text t y.0) (2 * n + 2) 0
+    go : (y : TextId × Shown) (c : Bool) → same_text t y.0 ≡ c → (o : Option Shown) → text_in y.0 xs ≡ o
+        → Grows (same_text t y.0) o (Some y.1)
+        → y.1.visits - looks o ≤ cond (same_text t y.0) (2 * n + 2) 0
     go y true q None h g = let g0 : y.1.visits ≡ 0 = g.1 in omega (arith, g0)
     go y false q None h g = let g0 : y.1.visits ≡ 0 = g.1 in omega (arith, g0)
     go y true q (Some x) h g =
         let g1 : Grows true (Some x) (Some y.1) = subst (λ b. Grows b (Some x) (Some y.1)) q g in
         let same : t ≡ y.0 = same_text-true t y.0 q in
         let few1 : HasFew n (Some x) = subst (HasFew n) h (subst (λ u. HasFew n (text_in u xs)) same few) in
-        let l : raised x.visits g1.1.0 - x.visits ≤ 2 * n + 2 = few-looks (length x.cutting) x.visits g1.1.0 n few1.0 (omega (arith, g1.1.2)) in
+        let l : raised x.visits g1.1.0 - x.visits ≤ 2 * n + 2 =
+        few-looks (length x.cutting) x.visits g1.1.0 n few1.0 (omega (arith, g1.1.2)) in
         rw (q, g1.1.1) l
     go y false q (Some x) h g =
         let g1 : x ≡ y.1 = subst (λ b. Grows b (Some x) (Some y.1)) q g in
@@ -287,7 +306,8 @@ found-le f t (x ∷ xs) v h = go (same_text t x.0) refl h (λ k. found-le f t xs
     all : sum_by f (x ∷ xs) ≡ f x + sum_by f xs
     all = sum_by-cons f x xs
 
-    go : (b : Bool) → same_text t x.0 ≡ b → cond b (Some x.1) (text_in t xs) ≡ Some v → (text_in t xs ≡ Some v → f (t, v) ≤ sum_by f xs) → f (t, v) ≤ sum_by f (x ∷ xs)
+    go : (b : Bool) → same_text t x.0 ≡ b → cond b (Some x.1) (text_in t xs) ≡ Some v → (text_in t xs ≡ Some v → f (t, v) ≤ sum_by f xs)
+        → f (t, v) ≤ sum_by f (x ∷ xs)
     go true q k more =
         let name : t ≡ x.0 = same_text-true t x.0 q in
         let value : x.1 ≡ v = cc in
@@ -300,8 +320,11 @@ found-le f t (x ∷ xs) v h = go (same_text t x.0) refl h (λ k. found-le f t xs
 more-than : (x m z k g : ℕ) → m ≡ min (x + k) g → m ≤ z → z < g → 0 < k → 0 < z - x
 more-than x m z k g a b c d = omega (arith, a, b, c, d)
 
-pub looked-at : (t : TextId) (xs mid ys : Texts) (x : Shown) → text_in t xs ≡ Some x → 0 < length x.cutting → Grows true (text_in t xs) (text_in t mid) → IsNoLess (text_in t mid) (text_in t ys) → count_of t (counts_of ys) < greatest → 0 < added (counts_of xs) (counts_of ys)
-looked-at t xs mid ys x there some grow less room = go (text_in t mid) (text_in t ys) refl (subst (λ o. Grows true o (text_in t mid)) there grow) less
+pub looked-at : (t : TextId) (xs mid ys : Texts) (x : Shown) → text_in t xs ≡ Some x → 0 < length x.cutting
+    → Grows true (text_in t xs) (text_in t mid) → IsNoLess (text_in t mid) (text_in t ys) → count_of t (counts_of ys) < greatest
+    → 0 < added (counts_of xs) (counts_of ys)
+looked-at t xs mid ys x there some grow less room =
+    go (text_in t mid) (text_in t ys) refl (subst (λ o. Grows true o (text_in t mid)) there grow) less
   where
     go : (p q : Option Shown) → text_in t ys ≡ q → Grows true (Some x) p → IsNoLess p q → 0 < added (counts_of xs) (counts_of ys)
     go None q f g l = absurd g

@@ -33,13 +33,15 @@ merge-commutes rising law d o (w, r, s, a) =
 pub merge-associates : RisingAgrees → UnionAssociates → MergeAssociates
 merge-associates rising law a b c (w, r, s, p) (v, s', t, q) (u, r', t', k) =
     let both : Agrees (b.edits ++ c.edits) = agrees-append b.edits c.edits (rising b.edits s) (rising c.edits t) q in
-    let all : Agrees (a.edits ++ (b.edits ++ c.edits)) = agrees-append a.edits (b.edits ++ c.edits) (rising a.edits r) both (agree-append a.edits b.edits c.edits p k) in
+    let all : Agrees (a.edits ++ (b.edits ++ c.edits)) =
+    agrees-append a.edits (b.edits ++ c.edits) (rising a.edits r) both (agree-append a.edits b.edits c.edits p k) in
     edits_decide (merged (merged a b) c) (merged a (merged b c)) refl (law a.edits b.edits c.edits r all)
 
 has_all-right : UnionHasBoth → (es fs : List Edit) → Agrees (es ++ fs) → (e : Edit) → Contains fs e → Contains (union es fs) e
 has_all-right law es fs a e m = (law es fs a e).1 (Contains-append_right es fs e m)
 
-pub merge-repeats : RisingAgrees → ((es fs : List Edit) → IsRising es → IsRising (union es fs)) → UnionHasBoth → UnionOfItsOwn → MergeRepeats
+pub merge-repeats : RisingAgrees → ((es fs : List Edit) → IsRising es → IsRising (union es fs)) → UnionHasBoth → UnionOfItsOwn
+    → MergeRepeats
 merge-repeats rising stays both law d o (w, r, s, a) =
     let all : Agrees (d.edits ++ o.edits) = agrees-append d.edits o.edits (rising d.edits r) (rising o.edits s) a in
     edits_decide (merged (merged d o) o) (merged d o) refl (law (union d.edits o.edits) o.edits (stays d.edits o.edits r) (has_all-right both d.edits o.edits all))

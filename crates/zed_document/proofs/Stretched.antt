@@ -11,14 +11,18 @@ use Rattle.zed_document.specs.Stretches.{ends_before, stretched, with_last}
 use Rattle.zed_types.proofs.StampOrder.{same_stamp-true}
 
 -- the last stretch goes on, or doesn't
-pub last-stretched : (rs : List ByteRange) (i : ℕ) (a : ElemId) (r : ByteRange) → i + 1 ≡ length rs → r ≡ slice_index_or rs i r → ends_before r a ≡ true → with_last rs a ≡ set rs i (stretched r a)
+pub last-stretched : (rs : List ByteRange) (i : ℕ) (a : ElemId) (r : ByteRange) → i + 1 ≡ length rs → r ≡ slice_index_or rs i r
+    → ends_before r a ≡ true
+    → with_last rs a ≡ set rs i (stretched r a)
 last-stretched [] i a r l is e = absurd (omega arith)
 last-stretched (x ∷ []) zero a r l is e = let t : ends_before x a ≡ true = rw (← is) e in rw (t, is) refl
 last-stretched (x ∷ []) (suc i) a r l is e = absurd (omega arith)
 last-stretched (x ∷ y ∷ ys) zero a r l is e = absurd (omega arith)
 last-stretched (x ∷ y ∷ ys) (suc i) a r l is e = ap (λ rest. x ∷ rest) (last-stretched (y ∷ ys) i a r (omega arith) is e)
 
-pub last-alone : (rs : List ByteRange) (i : ℕ) (a : ElemId) (r : ByteRange) → i + 1 ≡ length rs → r ≡ slice_index_or rs i r → ends_before r a ≡ false → with_last rs a ≡ rs ++ alone a ∷ []
+pub last-alone : (rs : List ByteRange) (i : ℕ) (a : ElemId) (r : ByteRange) → i + 1 ≡ length rs → r ≡ slice_index_or rs i r
+    → ends_before r a ≡ false
+    → with_last rs a ≡ rs ++ alone a ∷ []
 last-alone [] i a r l is e = absurd (omega arith)
 last-alone (x ∷ []) zero a r l is e = let t : ends_before x a ≡ false = rw (← is) e in rw t refl
 last-alone (x ∷ []) (suc i) a r l is e = absurd (omega arith)
@@ -41,7 +45,8 @@ pub front-behind : (b a : ElemId) (rs : List ByteRange) → with_byte b (with_la
 front-behind b a [] = one-one b a
 front-behind b a (r ∷ []) = go (goes_before b r) refl (ends_before r a) refl
   where
-    go : (t : Bool) → goes_before b r ≡ t → (u : Bool) → ends_before r a ≡ u → with_byte b (with_last (r ∷ []) a) ≡ with_last (with_byte b (r ∷ [])) a
+    go : (t : Bool) → goes_before b r ≡ t → (u : Bool) → ends_before r a ≡ u
+        → with_byte b (with_last (r ∷ []) a) ≡ with_last (with_byte b (r ∷ [])) a
     go true t true u =
         let s : r.stamp ≡ a.name.stamp = same_stamp-true r.stamp a.name.stamp (and_parts (same_stamp r.stamp a.name.stamp) _ u).0 in
         let t' : goes_before b (stretched r a) ≡ true = rw s at t in

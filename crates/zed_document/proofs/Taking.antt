@@ -50,7 +50,8 @@ pub removed : (q : Stamp → Bool) (s : Stamp) (ts : List Stamp) → q s ≡ fal
 removed q s [] n = refl
 removed q s (t ∷ ts) n = go (is_at (stamp_cmp s) t) refl (removed q s ts n)
   where
-    go : (b : Bool) → is_at (stamp_cmp s) t ≡ b → filter q (remove_key (is_at (stamp_cmp s)) ts) ≡ filter q ts → filter q (cond b ts (t ∷ remove_key (is_at (stamp_cmp s)) ts)) ≡ filter q (t ∷ ts)
+    go : (b : Bool) → is_at (stamp_cmp s) t ≡ b → filter q (remove_key (is_at (stamp_cmp s)) ts) ≡ filter q ts
+        → filter q (cond b ts (t ∷ remove_key (is_at (stamp_cmp s)) ts)) ≡ filter q (t ∷ ts)
     go true h more =
         let same : t ≡ s = same_stamp-true t s (sym (alike s t) ∙ h) in
         let fails : q t ≡ false = ap q same ∙ n in
@@ -65,7 +66,9 @@ all-pass q (t ∷ ts) h = go (q t) h (all-pass q ts)
     few : length (filter q ts) ≤ length ts
     few = subst (λ n. n ≤ length ts) (sym (length-filter q ts)) (count_by-le-length q ts)
 
-    go : (b : Bool) → length (cond b (t ∷ filter q ts) (filter q ts)) ≡ suc (length ts) → (length (filter q ts) ≡ length ts → filter q ts ≡ ts) → cond b (t ∷ filter q ts) (filter q ts) ≡ t ∷ ts
+    go : (b : Bool) → length (cond b (t ∷ filter q ts) (filter q ts)) ≡ suc (length ts)
+        → (length (filter q ts) ≡ length ts → filter q ts ≡ ts)
+        → cond b (t ∷ filter q ts) (filter q ts) ≡ t ∷ ts
     go true h more = ap (λ us. t ∷ us) (more (omega (arith, h)))
     go false h more = absurd (omega (arith, h, few))
 
@@ -73,10 +76,12 @@ all-pass q (t ∷ ts) h = go (q t) h (all-pass q ts)
 
 stamps-with : (e : Edit) (es : List Edit) → IsApart e es → insert_key stamp_cmp (stamps_of es) e.stamp ≡ stamps_of (with_edit e es)
 stamps-with e [] n = refl
-stamps-with e (f ∷ es) n = by_tests e.stamp f.stamp _ _ _ ∙ go (before e.stamp f.stamp) (same_stamp e.stamp f.stamp) n.0 (stamps-with e es n.1)
+stamps-with e (f ∷ es) n =
+    by_tests e.stamp f.stamp _ _ _ ∙ go (before e.stamp f.stamp) (same_stamp e.stamp f.stamp) n.0 (stamps-with e es n.1)
   where
     go : (b c : Bool) → c ≡ false → insert_key stamp_cmp (stamps_of es) e.stamp ≡ stamps_of (with_edit e es)
-        → cond b (e.stamp ∷ f.stamp ∷ stamps_of es) (cond c (f.stamp ∷ stamps_of es) (f.stamp ∷ insert_key stamp_cmp (stamps_of es) e.stamp)) ≡ stamps_of (cond b (e ∷ f ∷ es) (cond c (f ∷ es) (f ∷ with_edit e es)))
+        → cond b (e.stamp ∷ f.stamp ∷ stamps_of es) (cond c (f.stamp ∷ stamps_of es) (f.stamp ∷ insert_key stamp_cmp (stamps_of es) e.stamp))
+        ≡ stamps_of (cond b (e ∷ f ∷ es) (cond c (f ∷ es) (f ∷ with_edit e es)))
     go true c q more = refl
     go false true q more = absurd (cc)
     go false false q more = ap (λ ts. f.stamp ∷ ts) more
@@ -85,7 +90,9 @@ stamps-pass : (q : Stamp → Bool) (es : List Edit) → filter q (stamps_of es) 
 stamps-pass q [] = refl
 stamps-pass q (e ∷ es) = go (q e.stamp) (stamps-pass q es)
   where
-    go : (b : Bool) → filter q (stamps_of es) ≡ stamps_of (filter (λ (f : Edit). q f.stamp) es) → cond b (e.stamp ∷ filter q (stamps_of es)) (filter q (stamps_of es)) ≡ stamps_of (cond b (e ∷ filter (λ (f : Edit). q f.stamp) es) (filter (λ (f : Edit). q f.stamp) es))
+    go : (b : Bool) → filter q (stamps_of es) ≡ stamps_of (filter (λ (f : Edit). q f.stamp) es)
+        → cond b (e.stamp ∷ filter q (stamps_of es)) (filter q (stamps_of es))
+        ≡ stamps_of (cond b (e ∷ filter (λ (f : Edit). q f.stamp) es) (filter (λ (f : Edit). q f.stamp) es))
     go true more = ap (λ ts. e.stamp ∷ ts) more
     go false more = more
 
@@ -126,22 +133,29 @@ held-more e es r f fits n waits = go (can (replay es) e) refl
     go : (b : Bool) → can (replay es) e ≡ b → held_stamps (with_edit e es) ≡ insert_key stamp_cmp (held_stamps es) e.stamp
     go true able = absurd (let bad : true ≡ false = sym waits ∙ told-done e es r f fits n able in cc)
     go false cant =
-        let at_place : can (replay k.low) e ≡ false = sym (earlier_decide e k.low k.high rises (fits, all-behind Fits k.low k.high (subst AllFit k.whole f))) ∙ ap (λ xs. can (replay xs) e) (sym k.whole) ∙ cant in
-        let more : held (with_edit e es) ≡ with_edit e (held es) = ap held k.with_it ∙ held_is_one_more e k.low k.high rises at_place ∙ ap (λ xs. with_edit e (held xs)) (sym k.whole) in
+        let at_place : can (replay k.low) e ≡ false =
+        sym (earlier_decide e k.low k.high rises (fits, all-behind Fits k.low k.high (subst AllFit k.whole f)))
+        ∙ ap (λ xs. can (replay xs) e) (sym k.whole) ∙ cant in
+        let more : held (with_edit e es) ≡ with_edit e (held es) =
+        ap held k.with_it ∙ held_is_one_more e k.low k.high rises at_place ∙ ap (λ xs. with_edit e (held xs)) (sym k.whole) in
         sym (held_are_remembered (with_edit e es)) ∙ ap stamps_of more ∙ sym (stamps-with e (held es) apart) ∙ ap (λ ts. insert_key stamp_cmp ts e.stamp) (held_are_remembered es)
 
 -- where an edit wakes others, it isn't held, and those held are the ones held before that wait still
 pub waking : (e : Edit) (es : List Edit) → IsRising es → AllFit es → Fits e → IsApart e es → 0 < woken es (with_edit e es)
-    → (is_held (with_edit e es) e.stamp ≡ false) × (filter (waits_in (held (with_edit e es))) (held_stamps es) ≡ stamps_of (held (with_edit e es)))
+    → (is_held (with_edit e es) e.stamp ≡ false)
+    × (filter (waits_in (held (with_edit e es))) (held_stamps es) ≡ stamps_of (held (with_edit e es)))
 waking e es r f fits n some = go (can (replay es) e) refl
   where
     new : List Edit
     new = with_edit e es
 
     same : filter (λ (g : Edit). waits_in (held new) g.stamp) (held es) ≡ filter (λ (g : Edit). is_held new g.stamp) (held es)
-    same = (λ i. filter (λ (g : Edit). waits-stamp g.stamp (held new) i) (held es)) ∙ ap (λ ts. filter (λ (g : Edit). is_among ts g.stamp) (held es)) (held_are_remembered new)
+    same =
+        (λ i. filter (λ (g : Edit). waits-stamp g.stamp (held new) i) (held es))
+        ∙ ap (λ ts. filter (λ (g : Edit). is_among ts g.stamp) (held es)) (held_are_remembered new)
 
-    go : (b : Bool) → can (replay es) e ≡ b → (is_held new e.stamp ≡ false) × (filter (waits_in (held new)) (held_stamps es) ≡ stamps_of (held new))
+    go : (b : Bool) → can (replay es) e ≡ b
+        → (is_held new e.stamp ≡ false) × (filter (waits_in (held new)) (held_stamps es) ≡ stamps_of (held new))
     go true able = (
       told-done e es r f fits n able,
       ap (filter (waits_in (held new))) (sym (held_are_remembered es)) ∙ stamps-pass (waits_in (held new)) (held es) ∙ ap stamps_of (same ∙ still-held e es r f fits n able),
@@ -156,6 +170,7 @@ IsRenewed t e waiting old new =
     (new ≡ stamps_of waiting) ⊎ ((t.woken ≡ 0) × (new ≡ (if t.held then insert_key stamp_cmp old e.stamp else old)))
 
 pub is_renewed : (t : Taken) (e : Edit) (waiting : List Edit) (old mid new : List Stamp) (w : ℕ) → t.woken ≡ w
-    → mid ≡ (if t.held then insert_key stamp_cmp old e.stamp else old) → (0 < w → new ≡ stamps_of waiting) → (w ≡ 0 → new ≡ mid) → IsRenewed t e waiting old new
+    → mid ≡ (if t.held then insert_key stamp_cmp old e.stamp else old) → (0 < w → new ≡ stamps_of waiting) → (w ≡ 0 → new ≡ mid)
+    → IsRenewed t e waiting old new
 is_renewed t e waiting old mid new zero q is some none = inr (q, none refl ∙ is)
 is_renewed t e waiting old mid new (suc w) q is some none = inl (some (omega arith))

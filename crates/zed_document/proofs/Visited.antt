@@ -46,31 +46,39 @@ some-cutting : (ps : List Piece) → 0 < length (elements (record { cutting = ps
 some-cutting [] h = h
 some-cutting (p ∷ ps) h = omega arith
 
-is-there : (o : Option Shown) (f : Option Text) → option_map elements o ≡ option_map (λ x. x.elements) f → 0 < length (elements_in f) → (x : Shown) × (o ≡ Some x) × (0 < length x.cutting)
+is-there : (o : Option Shown) (f : Option Text) → option_map elements o ≡ option_map (λ x. x.elements) f → 0 < length (elements_in f)
+    → (x : Shown) × (o ≡ Some x) × (0 < length x.cutting)
 is-there o None h k = absurd (omega (arith, k))
 is-there None (Some t) h k = absurd (cc)
 is-there (Some x) (Some t) h k =
     let same : elements x ≡ t.elements = cc in
     (x, refl, some-cutting x.cutting (subst (λ ys. 0 < length ys) (sym same) k))
 
-has-run : (es : List Edit) (t : TextId) (xs : Texts) → TextsShow (taken es) (elements_of xs) → 0 < length (shown_elements (replay es) t) → (x : Shown) × (text_in t xs ≡ Some x) × (0 < length x.cutting)
+has-run : (es : List Edit) (t : TextId) (xs : Texts) → TextsShow (taken es) (elements_of xs) → 0 < length (shown_elements (replay es) t)
+    → (x : Shown) × (text_in t xs ≡ Some x) × (0 < length x.cutting)
 has-run es t xs shows h =
     let all : replay (taken es) ≡ record (replay es) { held = [] } = (taken_make_all es).0 in
     is-there (text_in t xs) (find_text t (replay es).texts) (sym (in-elements t xs) ∙ shows.each t ∙ ap (λ (p : Plain). made_elements p t) all) h
 
 -- ---- by the op
 
-most-of : (es : List Edit) (op : Op) (xs ys : Texts) → HaveFew (taken es) xs → Rise ys → AllGrow (λ t. changes_text t op) xs ys → added (counts_of xs) (counts_of ys) ≤ most_looks es (text_changed op)
+most-of : (es : List Edit) (op : Op) (xs ys : Texts) → HaveFew (taken es) xs → Rise ys → AllGrow (λ t. changes_text t op) xs ys
+    → added (counts_of xs) (counts_of ys) ≤ most_looks es (text_changed op)
 most-of es (TextInsert t after bytes) xs ys few s grow = most-one t (edits_of t (taken es)) xs ys s grow (few t)
 most-of es (TextDelete t range) xs ys few s grow = most-one t (edits_of t (taken es)) xs ys s grow (few t)
 most-of es _ xs ys few s grow = most-none xs ys s grow
 
-some-at : (es : List Edit) (t : TextId) (xs mid ys : Texts) → TextsShow (taken es) (elements_of xs) → 0 < length (shown_elements (replay es) t) → Grows (same_text t t) (text_in t xs) (text_in t mid) → NoneFalls mid ys → count_of t (counts_of ys) < greatest → 0 < added (counts_of xs) (counts_of ys)
+some-at : (es : List Edit) (t : TextId) (xs mid ys : Texts) → TextsShow (taken es) (elements_of xs)
+    → 0 < length (shown_elements (replay es) t) → Grows (same_text t t) (text_in t xs) (text_in t mid) → NoneFalls mid ys
+    → count_of t (counts_of ys) < greatest
+    → 0 < added (counts_of xs) (counts_of ys)
 some-at es t xs mid ys shows has grow falls room =
     let r = has-run es t xs shows has in
     looked-at t xs mid ys r.0 r.1 r.2 (subst (λ b. Grows b (text_in t xs) (text_in t mid)) (same_text-itself t) grow) (falls t) room
 
-some-of : (es : List Edit) (op : Op) (xs mid ys : Texts) → TextsShow (taken es) (elements_of xs) → HasElement es (text_changed op) → AllGrow (λ t. changes_text t op) xs mid → NoneFalls mid ys → CountHasRoom (counts_of ys) (text_changed op) → 0 < added (counts_of xs) (counts_of ys)
+some-of : (es : List Edit) (op : Op) (xs mid ys : Texts) → TextsShow (taken es) (elements_of xs) → HasElement es (text_changed op)
+    → AllGrow (λ t. changes_text t op) xs mid → NoneFalls mid ys → CountHasRoom (counts_of ys) (text_changed op)
+    → 0 < added (counts_of xs) (counts_of ys)
 some-of es (TextInsert t after bytes) xs mid ys shows has grow falls room = some-at es t xs mid ys shows has (grow t) falls room
 some-of es (TextDelete t range) xs mid ys shows has grow falls room = some-at es t xs mid ys shows has (grow t) falls room
 some-of es _ xs mid ys shows has grow falls room = absurd has
@@ -81,7 +89,8 @@ some-of es _ xs mid ys shows has grow falls room = absurd has
 abbrev pub IsTold : Edit → Taken → Texts → Texts → ℕ → Type 0
 IsTold e t xs ys v = ((v ≡ min (capped (counts_of ys) - capped (counts_of xs)) greatest) × (length ys < 2 ^ 64)) ⊎ ((text_changed e.op ≡ None) × (t.woken ≡ 0) × (v ≡ 0))
 
-told-sum : (new old more v : ℕ) → more + old ≡ new → v ≡ min (min new greatest_sum - min old greatest_sum) greatest → new ≤ greatest_sum → v ≡ min more greatest
+told-sum : (new old more v : ℕ) → more + old ≡ new → v ≡ min (min new greatest_sum - min old greatest_sum) greatest → new ≤ greatest_sum
+    → v ≡ min more greatest
 told-sum new old more v h k room = omega (arith, h, k, room)
 
 through : (a b c : ℕ) → a ≤ b → b ≤ c → a ≤ c
@@ -90,8 +99,10 @@ through a b c h k = omega (arith, h, k)
 none-more : (more old new : ℕ) → more + old ≡ new → new ≡ old → more ≡ 0
 none-more more old new h k = omega (arith, h, k)
 
-pub tells_visits : (e : Edit) (es : List Edit) (b c : Body) (t : Taken) (d : Delivered) → BodyShows es b → BodyShows (with_edit e es) c → Works e t b.texts c.texts
-    → d.state ≡ state_of t.held → d.woken ≡ t.woken → IsTold e t b.texts c.texts d.visits → TellsVisits e es (counts_of b.texts) (counts_of c.texts) d
+pub tells_visits : (e : Edit) (es : List Edit) (b c : Body) (t : Taken) (d : Delivered) → BodyShows es b → BodyShows (with_edit e es) c
+    → Works e t b.texts c.texts
+    → d.state ≡ state_of t.held → d.woken ≡ t.woken → IsTold e t b.texts c.texts d.visits
+    → TellsVisits e es (counts_of b.texts) (counts_of c.texts) d
 tells_visits e es b c t d was now works state woken told = record {
   sum = sum-told;
   falls = counts-fall-not b.texts c.texts works.none_falls;
@@ -110,7 +121,8 @@ tells_visits e es b c t d was now works state woken told = record {
     law = sum-law b.texts c.texts (texts-rise b.texts was.content.texts.rise) rises works.none_falls
 
     none-added : t.held ≡ true → more ≡ 0
-    none-added h = none-more more (total (counts_of b.texts)) (total (counts_of c.texts)) law (ap (λ ts. total (counts_of ts)) (works.held h))
+    none-added h =
+        none-more more (total (counts_of b.texts)) (total (counts_of c.texts)) law (ap (λ ts. total (counts_of ts)) (works.held h))
 
     most-by : (h : Bool) → t.held ≡ h → t.woken ≡ 0 → more ≤ most_looks es (text_changed e.op)
     most-by true h w = let z = none-added h in omega (arith, z)
@@ -128,7 +140,9 @@ tells_visits e es b c t d was now works state woken told = record {
     least : d.visits ≤ more
     least = omega (arith, sum-told)
 
-    some-told : (h : Bool) → t.held ≡ h → d.state ≡ as_taken → HasElement es (text_changed e.op) → CountHasRoom (counts_of c.texts) (text_changed e.op) → 0 < d.visits
+    some-told : (h : Bool) → t.held ≡ h → d.state ≡ as_taken → HasElement es (text_changed e.op)
+        → CountHasRoom (counts_of c.texts) (text_changed e.op)
+        → 0 < d.visits
     some-told true h taken has room = let waits : d.state ≡ Held = state ∙ ap state_of h in absurd (cc)
     some-told false h taken has room =
         let first = works.done h in
@@ -139,7 +153,8 @@ tells_visits e es b c t d was now works state woken told = record {
     none-told true h other = let z = none-added h in omega (arith, z, least)
     none-told false h other = absurd (other (state ∙ ap state_of h))
 
-pub tells_known : (e : Edit) (es : List Edit) (b : Body) (d : Delivered) → BodyShows es b → d.state ≡ Known → d.visits ≡ 0 → TellsVisits e es (counts_of b.texts) (counts_of b.texts) d
+pub tells_known : (e : Edit) (es : List Edit) (b : Body) (d : Delivered) → BodyShows es b → d.state ≡ Known → d.visits ≡ 0
+    → TellsVisits e es (counts_of b.texts) (counts_of b.texts) d
 tells_known e es b d was known visits =
     let rises = texts-rise b.texts was.content.texts.rise in
     let law = sum-law b.texts b.texts rises rises (none_falls-itself b.texts b.texts refl) in
@@ -152,7 +167,8 @@ tells_known e es b d was known visits =
     }
 
 -- where none waits none is woken
-pub none_woken : HeldAreRemembered → (e : Edit) (es : List Edit) (b : Body) (t : Taken) → ComesTo e es b → Tells e b t → length b.inbox ≡ 0 → t.woken ≡ 0
+pub none_woken : HeldAreRemembered → (e : Edit) (es : List Edit) (b : Body) (t : Taken) → ComesTo e es b → Tells e b t → length b.inbox ≡ 0
+    → t.woken ≡ 0
 none_woken remembered e es b t come tells none =
     let told = (tells es come).1 in
     let most = count_by-le-length (λ s. not (is_held (with_edit e es) s)) (held_stamps es) in
@@ -162,7 +178,12 @@ none_woken remembered e es b t come tells none =
 
 -- what is told, by the looks before
 pub told_by : (e : Edit) (t : Taken) (b : Body) (ys : Texts) (before : Option ℕ) (v : ℕ)
-    → IfSome before (λ n. n ≡ capped (counts_of b.texts)) → (before ≡ None → is_some (text_changed e.op) ≡ false) → (before ≡ None → length b.inbox ≡ 0)
-    → IfSome before (λ n. v ≡ min (capped (counts_of ys) - n) greatest) → IfSome before (λ n. length ys < 2 ^ 64) → (before ≡ None → v ≡ 0) → (length b.inbox ≡ 0 → t.woken ≡ 0) → IsTold e t b.texts ys v
-told_by e t b ys (Some n) v was none calm since within nothing woken = inl (since ∙ ap (λ m. min (capped (counts_of ys) - m) greatest) was, within)
-told_by e t b ys None v was none calm since within nothing woken = inr (none_is (text_changed e.op) (none refl), woken (calm refl), nothing refl)
+    → IfSome before (λ n. n ≡ capped (counts_of b.texts)) → (before ≡ None → is_some (text_changed e.op) ≡ false)
+    → (before ≡ None → length b.inbox ≡ 0)
+    → IfSome before (λ n. v ≡ min (capped (counts_of ys) - n) greatest) → IfSome before (λ n. length ys < 2 ^ 64) → (before ≡ None → v ≡ 0)
+    → (length b.inbox ≡ 0 → t.woken ≡ 0)
+    → IsTold e t b.texts ys v
+told_by e t b ys (Some n) v was none calm since within nothing woken =
+    inl (since ∙ ap (λ m. min (capped (counts_of ys) - m) greatest) was, within)
+told_by e t b ys None v was none calm since within nothing woken =
+    inr (none_is (text_changed e.op) (none refl), woken (calm refl), nothing refl)

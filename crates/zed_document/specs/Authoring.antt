@@ -113,7 +113,8 @@ stretches (x ∷ xs) = with_byte x.id (stretches xs)
 -- one deletion a stretch, at times that rise by one
 abbrev pub deletions : ℕ → ℕ → TextId → List ByteRange → List Edit
 deletions time replica t [] = []
-deletions time replica t (r ∷ rs) = record { stamp = record { time = time; replica = replica }; op = TextDelete t r } ∷ deletions (time + 1) replica t rs
+deletions time replica t (r ∷ rs) =
+    record { stamp = record { time = time; replica = replica }; op = TextDelete t r } ∷ deletions (time + 1) replica t rs
 
 -- a part of a list, without its end
 abbrev pub part : {X : Type 0} → ℕ → ℕ → List X → List X

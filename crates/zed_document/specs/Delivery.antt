@@ -63,7 +63,8 @@ AnswersEach d es r left = MatchBool d.is_stale ((r ≡ Err Stale) × (left ≡ d
 
 -- want of memory ended deliveries: those of a front were accepted, and the edit behind it is new to what they left
 abbrev pub DeliversFront : Replica → List Edit → List Edit → Type 0
-DeliversFront d es left = (n : ℕ) × DeliversEach d (take n es) (Ok tt) left × IsSomeAnd (slice_get es n) (λ e. edit_with e.stamp left ≡ None)
+DeliversFront d es left =
+    (n : ℕ) × DeliversEach d (take n es) (Ok tt) left × IsSomeAnd (slice_get es n) (λ e. edit_with e.stamp left ≡ None)
 
 -- a set has no other edit of the stamp of this one
 abbrev pub IsFree : List Edit → Edit → Type 0

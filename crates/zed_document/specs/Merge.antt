@@ -22,4 +22,5 @@ AnswersJoin es fs r = (Agree es fs × ((r ≡ Ok tt) ⊎ (r ≡ Err Memory))) �
 
 -- what a merge answers: Stale, then OtherWorld, then Clash
 abbrev pub AnswersMerge : Replica → Replica → Merged → Type 0
-AnswersMerge d o r = MatchBool d.is_stale (r ≡ Err Stale) (MatchBool (d.world == o.world) (AnswersJoin d.edits o.edits r) (r ≡ Err OtherWorld))
+AnswersMerge d o r =
+    MatchBool d.is_stale (r ≡ Err Stale) (MatchBool (d.world == o.world) (AnswersJoin d.edits o.edits r) (r ≡ Err OtherWorld))

@@ -18,7 +18,8 @@ base_other number bytes e is fault =
     steps_other (IsOpened (Some number) bytes) HasEdits e (opened_other (Some number) bytes e) (λ f has lost. edits_other e f has) is fault
 
 -- a base of its own has another name
-pub named_other : {X : Type 0} (answer : Result (Option X) DrawingError) (is_own : Bool) → is_own ≡ false → IfOk answer (λ b. IfSome b (λ _. is_own ≡ false))
+pub named_other : {X : Type 0} (answer : Result (Option X) DrawingError) (is_own : Bool) → is_own ≡ false
+    → IfOk answer (λ b. IfSome b (λ _. is_own ≡ false))
 named_other (Ok None) is_own is = tt
 named_other (Ok (Some x)) is_own is = is
 named_other (Err e) is_own is = tt

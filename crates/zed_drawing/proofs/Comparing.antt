@@ -55,7 +55,8 @@ no_text_tells es bytes w is none shows =
 pub same_world : (es : List Edit) (w : Contents) → Shows es w → IsSame w (exported 32767 (replay es)) (Ok tt)
 same_world es w shows = subst (λ r. IsSame w r (Ok tt)) (sym shows) (inl (refl, refl))
 
-pub other_world : (es : List Edit) (bytes : List ℕ) (w : Contents) → IsSaved es bytes → (Shows es w → ⊥) → IsSame w (exported 32767 (replay es)) (Err NotTaken)
+pub other_world : (es : List Edit) (bytes : List ℕ) (w : Contents) → IsSaved es bytes → (Shows es w → ⊥)
+    → IsSame w (exported 32767 (replay es)) (Err NotTaken)
 other_world es bytes w is other =
     let shown = (stands (replay es) bytes is.0).shown in
     subst (λ r. IsSame w r (Err NotTaken)) (sym shown) (inr (λ same. other (shown ∙ ap (λ v. Ok v) same), refl))
@@ -64,18 +65,22 @@ other_world es bytes w is other =
 pub unsaved : (es : List Edit) (w : Contents) (e : DrawingError) → IsExported es (Err e) → IsSame w (exported 32767 (replay es)) (Err e)
 unsaved es w e is = go (refusal_of 32767 (replay es)) is
   where
-    go : (o : Option ExportError) → Err e ≡ export_told (unless_over o (world_text (world_of (replay es)))) → IsSame w (unless_over o (world_of (replay es))) (Err e)
+    go : (o : Option ExportError) → Err e ≡ export_told (unless_over o (world_text (world_of (replay es))))
+        → IsSame w (unless_over o (world_of (replay es))) (Err e)
     go None nothing = absurd (cc)
     go (Some x) why = let same : e ≡ Refused (export_refusal x) = cc in ap (λ y. Err y) same
 
-pub unsaved_gives : (es : List Edit) (w : Contents) (e : DrawingError) → (e ≡ memory) ⊎ IsExported es (Err e) → (e ≡ memory) ⊎ IsSame w (exported 32767 (replay es)) (Err e)
+pub unsaved_gives : (es : List Edit) (w : Contents) (e : DrawingError) → (e ≡ memory) ⊎ IsExported es (Err e)
+    → (e ≡ memory) ⊎ IsSame w (exported 32767 (replay es)) (Err e)
 unsaved_gives es w e why = elim why [ inl lack ↦ inl lack | inr is ↦ inr (unsaved es w e is) ]
 
 abbrev as_text : List ℕ → Result (List ℕ) WorldError
 as_text bytes = Ok bytes
 
 -- a world with a board that is too large has no text
-pub over_has_none : (w : Contents) (e : WorldError) (b n : ℕ) → e ≡ worlds.BoardOver b n → (e ≡ worlds.Memory) ⊎ (written 32767 w ≡ Err e) → HasText 32767 w → ⊥
+pub over_has_none : (w : Contents) (e : WorldError) (b n : ℕ) → e ≡ worlds.BoardOver b n → (e ≡ worlds.Memory) ⊎ (written 32767 w ≡ Err e)
+    → HasText 32767 w
+    → ⊥
 unfolding written
 over_has_none w e b n is why none = elim why [
   | inl lack ↦ (let no : worlds.BoardOver b n ≡ worlds.Memory = sym is ∙ lack in cc)

@@ -34,7 +34,8 @@ undrawn_rest failed t f shown file base w view (Err e) other why = elim why [ in
 
 -- a file that is there
 pub free_there : {X : Type 0} (t : HostContents) (f : FileEdits) (shown : List Edit) (file base world bytes : List ℕ) (f0 f1 f2 : ℕ) (view : X → ⊤) (answer : Result X DrawingError)
-    → f0 ≤ f1 → f1 ≤ f2 → IsTried (Rose f0 f1) t world (Ok (Some bytes)) → Gives view (IsFree (Rose f1 f2) t f shown file base (Some bytes)) answer
+    → f0 ≤ f1 → f1 ≤ f2 → IsTried (Rose f0 f1) t world (Ok (Some bytes))
+    → Gives view (IsFree (Rose f1 f2) t f shown file base (Some bytes)) answer
     → Gives view (MayReplace (Rose f0 f2) t Careful f shown file base world) answer
 free_there t f shown file base world bytes f0 f1 f2 view answer le1 le2 tried free =
     step_then (IsTried (Rose f0 f2) t world) (IsFree (Rose f0 f2) t f shown file base) view (Some bytes) answer
@@ -46,12 +47,15 @@ free_there t f shown file base world bytes f0 f1 f2 view answer le1 le2 tried fr
 
 -- an effect is made of what may be written over
 pub replaces_gives : (failed : Type 0) (t : HostContents) (forcing : Forcing) (f : FileEdits) (shown : List Edit) (file world bytes : List ℕ) (answer : Result Effect DrawingError)
-    → MayReplace failed t forcing f shown file (beside world) world (Ok tt) → IfOk answer (λ x. x ≡ opened_as world f bytes) → IfErr answer (λ e. e ≡ memory)
+    → MayReplace failed t forcing f shown file (beside world) world (Ok tt) → IfOk answer (λ x. x ≡ opened_as world f bytes)
+    → IfErr answer (λ e. e ≡ memory)
     → Gives (λ x. x) (Replaces failed t forcing f shown file world bytes) answer
 replaces_gives failed t forcing f shown file world bytes (Ok x) may is lack = (Ok tt, may, ap (λ y. Ok y) is)
 replaces_gives failed t forcing f shown file world bytes (Err e) may is lack = inl lack
 
-pub writes_so : (f : FileEdits) (world bytes : List ℕ) (answer : Result Effect DrawingError) → IfOk answer (λ x. x ≡ opened_as world f bytes) → IfOk answer (λ x. OpenWrites world (names_of x.files))
+pub writes_so : (f : FileEdits) (world bytes : List ℕ) (answer : Result Effect DrawingError)
+    → IfOk answer (λ x. x ≡ opened_as world f bytes)
+    → IfOk answer (λ x. OpenWrites world (names_of x.files))
 writes_so f world bytes (Ok x) is = ap (λ y. names_of y.files) is
 writes_so f world bytes (Err e) is = tt
 
@@ -88,11 +92,15 @@ pub look_once : (file base world : List ℕ) (missing : Bool) → LookReads Care
 look_once file base world true = inl refl
 look_once file base world false = inr ([], inl refl, refl)
 
-pub look_join : (file base world : List ℕ) (a b : List Call) → a ≡ call (Reading world) false ∷ [] → MayReadBase file base b → LookReads Careful file base world (a ++ b)
+pub look_join : (file base world : List ℕ) (a b : List Call) → a ≡ call (Reading world) false ∷ [] → MayReadBase file base b
+    → LookReads Careful file base world (a ++ b)
 look_join file base world a b is reads = inr (b, reads, ap (λ c. c ++ b) is)
 
-pub open_join : (forcing : Forcing) (file world : List ℕ) (a b : List Call) → a ≡ call (Reading file) false ∷ [] → LookReads forcing file (beside world) world b → OpenReads forcing file world (a ++ b)
+pub open_join : (forcing : Forcing) (file world : List ℕ) (a b : List Call) → a ≡ call (Reading file) false ∷ []
+    → LookReads forcing file (beside world) world b
+    → OpenReads forcing file world (a ++ b)
 open_join forcing file world a b is reads = (b, reads, ap (λ c. c ++ b) is)
 
-pub open_behind_file : (forcing : Forcing) (file world : List ℕ) (a : List Call) → a ≡ call (Reading file) false ∷ [] → (b : List Call) × OpenReads forcing file world (a ++ b)
+pub open_behind_file : (forcing : Forcing) (file world : List ℕ) (a : List Call) → a ≡ call (Reading file) false ∷ []
+    → (b : List Call) × OpenReads forcing file world (a ++ b)
 open_behind_file forcing file world a is = let m = some_look forcing file (beside world) world in (m.0, open_join forcing file world a m.0 is m.1)

@@ -31,7 +31,8 @@ named failed t name bytes Made view (Err e) held why = elim why [ inl lack ↦ i
 
 -- a file that was not
 pub unnamed : {Y : Type 0} (failed : Type 0) (t : HostContents) (name : List ℕ) (Made : List ℕ → Result Y DrawingError → Type 0) (r : Refusal)
-    → (r ≡ refusal.Memory) ⊎ (r ≡ refusal.File) → (r ≡ refusal.File → IsRead failed t name None) → (Refused r ≡ memory) ⊎ OfName failed t name Made (Err (Refused r))
+    → (r ≡ refusal.Memory) ⊎ (r ≡ refusal.File) → (r ≡ refusal.File → IsRead failed t name None)
+    → (Refused r ≡ memory) ⊎ OfName failed t name Made (Err (Refused r))
 unnamed failed t name Made r why none =
     elim why [ inl lack ↦ inl (ap (λ x. Refused x) lack) | inr is ↦ inr (None, none is, ap (λ x. Err (Refused x)) is) ]
 
@@ -40,7 +41,8 @@ unnamed failed t name Made r why none =
 pub told_world : (bytes : List ℕ) (w : Contents) → world_at bytes ≡ Ok w → IsWorld bytes (Ok w)
 told_world bytes w is = sym (ap world_told is)
 
-pub told_refusal : (bytes : List ℕ) (e : WorldError) → (e ≡ worlds.Memory) ⊎ (world_at bytes ≡ Err e) → (Refused (world_refusal e) ≡ memory) ⊎ IsWorld bytes (Err (Refused (world_refusal e)))
+pub told_refusal : (bytes : List ℕ) (e : WorldError) → (e ≡ worlds.Memory) ⊎ (world_at bytes ≡ Err e)
+    → (Refused (world_refusal e) ≡ memory) ⊎ IsWorld bytes (Err (Refused (world_refusal e)))
 told_refusal bytes e why = elim why [
   | inl lack ↦ inl (ap (λ x. Refused (world_refusal x)) lack)
   | inr is ↦ inr (sym (ap world_told is))

@@ -105,7 +105,8 @@ taken_other all base w replica e is fault = elim is [
 ]
 
 -- what is done with what was read
-pub draws_other : (base file_name : List ℕ) (replica : ℕ) (g : Given) (e : DrawingError) → Draws base file_name replica g (Err e) → e ≡ file → ⊥
+pub draws_other : (base file_name : List ℕ) (replica : ℕ) (g : Given) (e : DrawingError) → Draws base file_name replica g (Err e) → e ≡ file
+    → ⊥
 unfolding Draws
 draws_other base file_name replica g e is fault =
     steps_other (IsJoined g.edits g.base) (λ all r. Steps (IsTaken all (edits_of_base g.base g.edits) g.shown replica) (λ new r. r ≡ Ok (drawn base file_name g all new)) r) e

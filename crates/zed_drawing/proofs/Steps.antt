@@ -21,7 +21,9 @@ step_then First Next view x (Ok z) first next = (Ok x, first, next)
 step_then First Next view x (Err e) first next = elim next [ inl lack ↦ inl lack | inr is ↦ inr (Ok x, first, is) ]
 
 -- a step before an answer was done
-pub step_was : {X Y : Type 0} (First : Result X DrawingError → Type 0) (Next : X → Result Y DrawingError → Type 0) (y : Y) → Steps First Next (Ok y) → (x : X) × First (Ok x) × Next x (Ok y)
+pub step_was : {X Y : Type 0} (First : Result X DrawingError → Type 0) (Next : X → Result Y DrawingError → Type 0) (y : Y)
+    → Steps First Next (Ok y)
+    → (x : X) × First (Ok x) × Next x (Ok y)
 step_was First Next y is = go is.0 is.1 is.2
   where
     go : (m : Result _ DrawingError) → First m → Then m Next (Ok y) → (x : _) × First (Ok x) × Next x (Ok y)

@@ -13,7 +13,8 @@ some-first e es h = absurd (cc)
 -- where the step of the first edit does
 pub grows_here : (p : Plain) (e : Edit) (es : List Edit) → MayGrow p e → MayGrowBy p (e ∷ es)
 grows_here p e es (inl h) = inl (ap (λ b. b || list_any (λ f. may_grow f.op) es) h)
-grows_here p e es (inr h) = inr (subst (λ b. cond b (held_on (step p e) es) (e ∷ held_on (step p e) es) ≢ []) (sym h) (some-first e (held_on (step p e) es)))
+grows_here p e es (inr h) =
+    inr (subst (λ b. cond b (held_on (step p e) es) (e ∷ held_on (step p e) es) ≢ []) (sym h) (some-first e (held_on (step p e) es)))
 
 -- or that of a later one
 pub grows_later : (p : Plain) (e : Edit) (es : List Edit) → MayGrowBy (step p e) es → MayGrowBy p (e ∷ es)

@@ -27,16 +27,21 @@ pub held-stamps : (p : Document) (es : List Edit) → (replay_on p es).held ≡ 
 held-stamps p [] = sym (append-nil p.held)
 held-stamps p (e ∷ es) = go (can p e) (held-stamps (do_edit p e) es) (held-stamps (hold p e) es)
   where
-    go : (b : Bool) → (replay_on (do_edit p e) es).held ≡ (do_edit p e).held ++ map (λ f. f.stamp) (held_on (do_edit p e) es) → (replay_on (hold p e) es).held ≡ (p.held ++ e.stamp ∷ []) ++ map (λ f. f.stamp) (held_on (hold p e) es) → (replay_on (cond b (do_edit p e) (hold p e)) es).held ≡ p.held ++ map (λ f. f.stamp) (cond b (held_on (cond b (do_edit p e) (hold p e)) es) (e ∷ held_on (cond b (do_edit p e) (hold p e)) es))
+    go : (b : Bool) → (replay_on (do_edit p e) es).held ≡ (do_edit p e).held ++ map (λ f. f.stamp) (held_on (do_edit p e) es)
+        → (replay_on (hold p e) es).held ≡ (p.held ++ e.stamp ∷ []) ++ map (λ f. f.stamp) (held_on (hold p e) es)
+        → (replay_on (cond b (do_edit p e) (hold p e)) es).held
+        ≡ p.held ++ map (λ f. f.stamp) (cond b (held_on (cond b (do_edit p e) (hold p e)) es) (e ∷ held_on (cond b (do_edit p e) (hold p e)) es))
     go true done passed = done ∙ ap (λ stamps. stamps ++ map (λ f. f.stamp) (held_on (do_edit p e) es)) (do_op-held e.stamp e.op p)
     go false done passed = passed ∙ append_assoc p.held (e.stamp ∷ []) (map (λ f. f.stamp) (held_on (hold p e) es))
 
 -- what comes behind a stamp
-all_held : (s : Stamp) (p : Document) (es : List Edit) → AllByRecursion (λ e. before s e.stamp ≡ true) es → AllByRecursion (λ r. before s r ≡ true) (stamps_of (held_on p es))
+all_held : (s : Stamp) (p : Document) (es : List Edit) → AllByRecursion (λ e. before s e.stamp ≡ true) es
+    → AllByRecursion (λ r. before s r ≡ true) (stamps_of (held_on p es))
 all_held s p [] h = tt
 all_held s p (e ∷ es) h = go (can p e) (all_held s (step p e) es h.1)
   where
-    go : (b : Bool) → AllByRecursion (λ r. before s r ≡ true) (stamps_of (held_on (step p e) es)) → AllByRecursion (λ r. before s r ≡ true) (stamps_of (cond b (held_on (step p e) es) (e ∷ held_on (step p e) es)))
+    go : (b : Bool) → AllByRecursion (λ r. before s r ≡ true) (stamps_of (held_on (step p e) es))
+        → AllByRecursion (λ r. before s r ≡ true) (stamps_of (cond b (held_on (step p e) es) (e ∷ held_on (step p e) es)))
     go true more = more
     go false more = (h.0, more)
 
@@ -44,7 +49,8 @@ pub held-rise : (p : Document) (es : List Edit) → IsRising es → StampsRise (
 held-rise p [] r = tt
 held-rise p (e ∷ es) r = go (can p e) (held-rise (step p e) es r.1)
   where
-    go : (b : Bool) → StampsRise (stamps_of (held_on (step p e) es)) → StampsRise (stamps_of (cond b (held_on (step p e) es) (e ∷ held_on (step p e) es)))
+    go : (b : Bool) → StampsRise (stamps_of (held_on (step p e) es))
+        → StampsRise (stamps_of (cond b (held_on (step p e) es) (e ∷ held_on (step p e) es)))
     go true more = more
     go false more = (all_held e.stamp (step p e) es r.0, more)
 

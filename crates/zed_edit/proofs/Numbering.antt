@@ -33,7 +33,9 @@ first_decides false true o = refl
 first_decides false false o = refl
 
 -- what comparing names says, by the tests on each part
-by_tests : (a b c d e f : Bool) → is_lt (ordering_then (ordering_then (cond a Less (cond b Equal Greater)) (cond c Less (cond d Equal Greater))) (cond e Less (cond f Equal Greater))) ≡ ((a || (b && c)) || ((b && d) && e))
+by_tests : (a b c d e f : Bool)
+    → is_lt (ordering_then (ordering_then (cond a Less (cond b Equal Greater)) (cond c Less (cond d Equal Greater))) (cond e Less (cond f Equal Greater)))
+      ≡ ((a || (b && c)) || ((b && d) && e))
 by_tests true b c d e f = refl
 by_tests false true true d e f = refl
 by_tests false true false true true f = refl
@@ -69,7 +71,9 @@ tie a b h k = go (standing_cmp a b) refl
 abbrev pub Apart : List Standing → Type 0
 Apart ks = (id : BoardId) → count_by (λ k. same_board k.board id) ks ≤ 1
 
-behind : (x : Standing) (xs : List Standing) → ((i : ℕ) (d : Standing) → i < length xs → stands_before (get_or xs i d) x ≡ false) → count_by (λ k. same_board k.board x.board) xs ≤ 0 → AllByRecursion (λ y. stands_before x y ≡ true) xs
+behind : (x : Standing) (xs : List Standing) → ((i : ℕ) (d : Standing) → i < length xs → stands_before (get_or xs i d) x ≡ false)
+    → count_by (λ k. same_board k.board x.board) xs ≤ 0
+    → AllByRecursion (λ y. stands_before x y ≡ true) xs
 behind x [] f c = tt
 behind x (y ∷ ys) f c = (go (stands_before x y) refl, behind x ys (λ i d l. f (suc i) d (omega arith)) (omega (arith, n, c)))
   where
@@ -149,11 +153,13 @@ all-in_order : (P : Standing → Type 0) (xs : List Standing) → AllByRecursion
 all-in_order P [] h = tt
 all-in_order P (x ∷ xs) h = all-put P x (in_order xs) h.0 (all-in_order P xs h.1)
 
-all-behind : (x y : Standing) (ys : List Standing) → stands_before x y ≡ true → AllByRecursion (λ z. stands_before y z ≡ true) ys → AllByRecursion (λ z. stands_before x z ≡ true) ys
+all-behind : (x y : Standing) (ys : List Standing) → stands_before x y ≡ true → AllByRecursion (λ z. stands_before y z ≡ true) ys
+    → AllByRecursion (λ z. stands_before x z ≡ true) ys
 all-behind x y [] h k = tt
 all-behind x y (z ∷ zs) h k = (before-through x y z h k.0, all-behind x y zs h k.1)
 
-put-rises : (x : Standing) (ys : List Standing) → AllByRecursion (λ y. same_board y.board x.board ≡ false) ys → Rises stands_before ys → Rises stands_before (put x ys)
+put-rises : (x : Standing) (ys : List Standing) → AllByRecursion (λ y. same_board y.board x.board ≡ false) ys → Rises stands_before ys
+    → Rises stands_before (put x ys)
 put-rises x [] d r = (tt, tt)
 put-rises x (y ∷ ys) d r = go (stands_before x y) refl (put-rises x ys d.1 r.1)
   where
@@ -206,13 +212,16 @@ module _ (bs : List Board) (ks : List Standing) (same : IsPermutation (map stand
 
   -- the standings of the boards by their numbers
   pub stand-so : map standing (by_number bs) ≡ ks
-  stand-so = ap (λ n. map standing (filter_map (board_with bs) (range_with_len 0 n))) (sym as-long) ∙ walk (board_with bs) standing ks 0 (λ n. ap (λ m. option_map standing (board_with bs m)) (omega arith) ∙ with-number n)
+  stand-so =
+      ap (λ n. map standing (filter_map (board_with bs) (range_with_len 0 n))) (sym as-long)
+      ∙ walk (board_with bs) standing ks 0 (λ n. ap (λ m. option_map standing (board_with bs m)) (omega arith) ∙ with-number n)
 
   pub same-length : length (by_number bs) ≡ length bs
   same-length = sym (length-map (by_number bs) standing) ∙ ap (λ xs. length xs) stand-so ∙ as-long
 
   -- the number of a board is its place
-  pub number-is : AreApart bs → (id : BoardId) → option_map (boards_before bs) (find (λ b. same_board b.id id) bs) ≡ position (λ b. same_board b.id id) (by_number bs)
+  pub number-is : AreApart bs → (id : BoardId)
+      → option_map (boards_before bs) (find (λ b. same_board b.id id) bs) ≡ position (λ b. same_board b.id id) (by_number bs)
   number-is apart id =
       let ms = map standing bs in
       let q : Standing → Bool = λ k. same_board k.board id in
@@ -244,7 +253,8 @@ long-so bs apart = let ms = map standing bs in same-length bs (in_order ms) (ord
 found-among : {X : Type 0} (P : X → Type 0) (q : X → Bool) (xs : List X) → AllByRecursion P xs → (x : X) → find q xs ≡ Some x → P x
 found-among P q xs h x e = (found-is q P xs x h e).1
 
-some-among : {X : Type 0} (P : X → Type 0) (f : ℕ → Option X) → ((n : ℕ) (x : X) → f n ≡ Some x → P x) → (ns : List ℕ) → AllByRecursion P (filter_map f ns)
+some-among : {X : Type 0} (P : X → Type 0) (f : ℕ → Option X) → ((n : ℕ) (x : X) → f n ≡ Some x → P x) → (ns : List ℕ)
+    → AllByRecursion P (filter_map f ns)
 some-among P f h [] = tt
 some-among {X} P f h (n ∷ ns) = go (f n) refl (some-among P f h ns)
   where
@@ -254,7 +264,8 @@ some-among {X} P f h (n ∷ ns) = go (f n) refl (some-among P f h ns)
 
 -- what holds of each board holds of each by their numbers
 pub each-so : (P : Board → Type 0) (bs : List Board) → AllByRecursion P bs → AllByRecursion P (by_number bs)
-each-so P bs h = some-among P (board_with bs) (λ n x e. found-among P (λ b. eqb (boards_before bs b) n) bs h x e) (range_with_len 0 (length bs))
+each-so P bs h =
+    some-among P (board_with bs) (λ n x e. found-among P (λ b. eqb (boards_before bs b) n) bs h x e) (range_with_len 0 (length bs))
 
 get-mapped : {X Y : Type 0} (f : X → Y) (xs : List X) (n : ℕ) → slice_get (map f xs) n ≡ option_map f (slice_get xs n)
 get-mapped f [] n = refl

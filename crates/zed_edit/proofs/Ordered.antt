@@ -35,19 +35,23 @@ count-permutation q xs ys h = sum_by-IsPermutation (λ y. cond (q y) 1 0) xs ys 
 
 pub count-mapped : {X K : Type 0} (key : X → K) (q : K → Bool) (xs : List X) → count_by q (map key xs) ≡ count_by (λ x. q (key x)) xs
 count-mapped key q [] = refl
-count-mapped key q (x ∷ xs) = count-cons q (key x) (map key xs) ∙ ap (λ n. cond (q (key x)) 1 0 + n) (count-mapped key q xs) ∙ sym (count-cons (λ y. q (key y)) x xs)
+count-mapped key q (x ∷ xs) =
+    count-cons q (key x) (map key xs) ∙ ap (λ n. cond (q (key x)) 1 0 + n) (count-mapped key q xs) ∙ sym (count-cons (λ y. q (key y)) x xs)
 
 -- what is found is the image of what is found
-pub find-mapped : {X K : Type 0} (key : X → K) (q : K → Bool) (xs : List X) → find q (map key xs) ≡ option_map key (find (λ x. q (key x)) xs)
+pub find-mapped : {X K : Type 0} (key : X → K) (q : K → Bool) (xs : List X)
+    → find q (map key xs) ≡ option_map key (find (λ x. q (key x)) xs)
 find-mapped key q [] = refl
 find-mapped key q (x ∷ xs) = go (q (key x)) (find-mapped key q xs)
   where
-    go : (b : Bool) → find q (map key xs) ≡ option_map key (find (λ y. q (key y)) xs) → cond b (Some (key x)) (find q (map key xs)) ≡ option_map key (cond b (Some x) (find (λ y. q (key y)) xs))
+    go : (b : Bool) → find q (map key xs) ≡ option_map key (find (λ y. q (key y)) xs)
+        → cond b (Some (key x)) (find q (map key xs)) ≡ option_map key (cond b (Some x) (find (λ y. q (key y)) xs))
     go true e = refl
     go false e = e
 
 -- what is found passes, and what holds of all holds of it
-pub found-is : {X : Type 0} (q : X → Bool) (P : X → Type 0) (xs : List X) (k : X) → AllByRecursion P xs → find q xs ≡ Some k → (q k ≡ true) × P k
+pub found-is : {X : Type 0} (q : X → Bool) (P : X → Type 0) (xs : List X) (k : X) → AllByRecursion P xs → find q xs ≡ Some k
+    → (q k ≡ true) × P k
 found-is q P [] k h e = absurd (none_some k e)
 found-is q P (x ∷ xs) k h e = go (q x) refl e (found-is q P xs k h.1)
   where
@@ -71,7 +75,9 @@ some-count q (x ∷ xs) zero v e t = let a = count-yes q x xs (ap q (same_some v
 some-count q (x ∷ xs) (suc n) v e t = let a = count-cons q x xs in let b = some-count q xs n v e t in omega (arith, a, b)
 
 -- two members that pass where one at most does are one
-one-place : {X : Type 0} (q : X → Bool) (xs : List X) (i j : ℕ) (v w : X) → count_by q xs ≤ 1 → slice_get xs i ≡ Some v → slice_get xs j ≡ Some w → q v ≡ true → q w ≡ true → v ≡ w
+one-place : {X : Type 0} (q : X → Bool) (xs : List X) (i j : ℕ) (v w : X) → count_by q xs ≤ 1 → slice_get xs i ≡ Some v
+    → slice_get xs j ≡ Some w → q v ≡ true → q w ≡ true
+    → v ≡ w
 one-place q [] i j v w few a b s t = absurd (none_some v a)
 one-place q (x ∷ xs) zero zero v w few a b s t = sym (same_some v x v a) ∙ same_some w x w b
 one-place q (x ∷ xs) zero (suc j) v w few a b s t = let c = count-yes q x xs (ap q (same_some v x v a) ∙ s) in let d = some-count q xs j w b t in absurd (omega (arith, c, d, few))
@@ -84,13 +90,16 @@ all-at P (x ∷ xs) zero v h e = subst P (same_some v x v e) h.0
 all-at P (x ∷ xs) (suc n) v h e = all-at P xs n v h.1 e
 
 -- the values of f from a on, where these are the members of a list
-pub walk : {X K : Type 0} (f : ℕ → Option X) (key : X → K) (ks : List K) (a : ℕ) → ((n : ℕ) → option_map key (f (a + n)) ≡ slice_get ks n) → map key (filter_map f (range_with_len a (length ks))) ≡ ks
+pub walk : {X K : Type 0} (f : ℕ → Option X) (key : X → K) (ks : List K) (a : ℕ) → ((n : ℕ) → option_map key (f (a + n)) ≡ slice_get ks n)
+    → map key (filter_map f (range_with_len a (length ks))) ≡ ks
 walk f key [] a e = refl
 walk {X} f key (k ∷ ks) a e = go (f a) (ap (λ n. option_map key (f n)) (omega arith) ∙ e 0) (walk f key ks (a + 1) (λ n. ap (λ m. option_map key (f m)) (omega arith) ∙ e (suc n)))
   where
-    go : (o : Option X) → option_map key o ≡ Some k → map key (filter_map f (range_with_len (a + 1) (length ks))) ≡ ks → map key (cons_option o (filter_map f (range_with_len (a + 1) (length ks)))) ≡ k ∷ ks
+    go : (o : Option X) → option_map key o ≡ Some k → map key (filter_map f (range_with_len (a + 1) (length ks))) ≡ ks
+        → map key (cons_option o (filter_map f (range_with_len (a + 1) (length ks)))) ≡ k ∷ ks
     go None h r = absurd (none_some k h)
-    go (Some x) h r = ap (λ y. y ∷ map key (filter_map f (range_with_len (a + 1) (length ks)))) (same_some k (key x) k h) ∙ ap (λ ys. k ∷ ys) r
+    go (Some x) h r =
+        ap (λ y. y ∷ map key (filter_map f (range_with_len (a + 1) (length ks)))) (same_some k (key x) k h) ∙ ap (λ ys. k ∷ ys) r
 
 -- each comes before those behind it
 abbrev pub Rises : {K : Type 0} → (K → K → Bool) → List K → Type 0
@@ -120,9 +129,12 @@ module _ {K : Type 0} (lt : K → K → Bool) (once : (x y : K) → lt x y ≡ t
   pub has-place : (ks : List K) (n : ℕ) (v : K) → Rises lt ks → slice_get ks n ≡ Some v → before lt ks v ≡ n
   has-place [] n v r h = absurd (none_some v h)
   has-place (x ∷ xs) zero v r h = subst (λ w. before lt (x ∷ xs) w ≡ 0) (same_some v x v h) (first x xs r.0)
-  has-place (x ∷ xs) (suc n) v r h = count-yes (λ j. lt j v) x xs (all-at (λ y. lt x y ≡ true) xs n v r.0 h) ∙ ap suc (has-place xs n v r.1 h)
+  has-place (x ∷ xs) (suc n) v r h =
+      count-yes (λ j. lt j v) x xs (all-at (λ y. lt x y ≡ true) xs n v r.0 h) ∙ ap suc (has-place xs n v r.1 h)
 
-  later : (x : K) (xs zs : List K) → AllByRecursion (λ y. lt x y ≡ true) zs → AllByRecursion (λ y. slice_get xs (before lt xs y) ≡ Some y) zs → AllByRecursion (λ y. slice_get (x ∷ xs) (before lt (x ∷ xs) y) ≡ Some y) zs
+  later : (x : K) (xs zs : List K) → AllByRecursion (λ y. lt x y ≡ true) zs
+      → AllByRecursion (λ y. slice_get xs (before lt xs y) ≡ Some y) zs
+      → AllByRecursion (λ y. slice_get (x ∷ xs) (before lt (x ∷ xs) y) ≡ Some y) zs
   later x xs [] h k = tt
   later x xs (z ∷ zs) h k = (ap (slice_get (x ∷ xs)) (count-yes (λ j. lt j z) x xs h.0) ∙ k.0, later x xs zs h.1 k.1)
 
@@ -193,7 +205,8 @@ none-past (x ∷ xs) zero e = absurd (none_some x (sym e))
 none-past (x ∷ xs) (suc n) e = let a = none-past xs n e in omega (arith, a)
 
 -- what f says of the one that is found, where f tells the place of each
-pub place-found : {K : Type 0} (f : K → ℕ) (q : K → Bool) (ks : List K) → ((n : ℕ) (v : K) → slice_get ks n ≡ Some v → f v ≡ n) → option_map f (find q ks) ≡ position q ks
+pub place-found : {K : Type 0} (f : K → ℕ) (q : K → Bool) (ks : List K) → ((n : ℕ) (v : K) → slice_get ks n ≡ Some v → f v ≡ n)
+    → option_map f (find q ks) ≡ position q ks
 place-found {K} f q ks h = ap (option_map f) (find_at q ks) ∙ go (slice_get ks (position_or_len q ks)) refl
   where
     go : (o : Option K) → slice_get ks (position_or_len q ks) ≡ o → option_map f (slice_get ks (position_or_len q ks)) ≡ position q ks

@@ -11,14 +11,16 @@ use Rattle.zed_world.specs.Normal.{IsNormalCode, AreNormalStats, IsNormalBoard}
 use Rattle.zed_edit.specs.Genesis.{own_program, programs_of}
 
 -- a numbered list in two parts
-pub map_from-append : {X Y : Type 0} (f : ℕ → X → Y) (i : ℕ) (xs ys : List X) → map_from f i (xs ++ ys) ≡ map_from f i xs ++ map_from f (i + length xs) ys
+pub map_from-append : {X Y : Type 0} (f : ℕ → X → Y) (i : ℕ) (xs ys : List X)
+    → map_from f i (xs ++ ys) ≡ map_from f i xs ++ map_from f (i + length xs) ys
 map_from-append f i [] ys = rw add-zero refl
 map_from-append f i (x ∷ xs) ys =
     let sum : i + 1 + length xs ≡ i + length (x ∷ xs) = omega arith in
     ap (λ rest. f i x ∷ rest) (rw (← sum) (map_from-append f (i + 1) xs ys))
 
 -- the members of a list, one before those that follow it
-pub cons_at : {X : Type 0} (xs : List X) (k : ℕ) (d x : X) (rest : List X) → k < length xs → x ≡ get_or xs k d → rest ≡ drop (suc k) xs → x ∷ rest ≡ drop k xs
+pub cons_at : {X : Type 0} (xs : List X) (k : ℕ) (d x : X) (rest : List X) → k < length xs → x ≡ get_or xs k d → rest ≡ drop (suc k) xs
+    → x ∷ rest ≡ drop k xs
 cons_at xs k d x rest l e r = rw (e, r) (sym (drop-cons xs k d l))
 
 -- the texts of one board more
@@ -41,12 +43,14 @@ short_code s code.None lower e h = rw e tt
 short_code s (code.Own bytes) lower e h = rw e (h.1)
 short_code s (code.Same n) lower e h = rw e tt
 
-short_stats : (boards stats : ℕ) (tiles : List Tile) (lower ss : List StatData) → AreNormalStats boards stats tiles lower ss → AllByRecursion IsShort ss
+short_stats : (boards stats : ℕ) (tiles : List Tile) (lower ss : List StatData) → AreNormalStats boards stats tiles lower ss
+    → AllByRecursion IsShort ss
 short_stats boards stats tiles lower [] h = tt
 short_stats boards stats tiles lower (s ∷ ss) h =
     (short_code s s.code lower refl h.0.code, short_stats boards stats tiles (lower ++ s ∷ []) ss h.1)
 
 -- each program of a normal world is short
-pub short_programs : (boards : ℕ) (bs : List BoardData) → AllByRecursion (IsNormalBoard boards) bs → AllByRecursion (λ b. AllByRecursion IsShort b.stats) bs
+pub short_programs : (boards : ℕ) (bs : List BoardData) → AllByRecursion (IsNormalBoard boards) bs
+    → AllByRecursion (λ b. AllByRecursion IsShort b.stats) bs
 short_programs boards [] h = tt
 short_programs boards (b ∷ bs) h = (short_stats boards (length b.stats) b.tiles [] b.stats h.0.stats, short_programs boards bs h.1)

@@ -9,7 +9,8 @@ use Rattle.zed_edit.specs.Board.{set_cells}
 
 module _ {X Y : Type 0} where
   -- two functions that agree on the members
-  pub map_from-alike : (f g : ℕ → X → Y) (i : ℕ) (xs : List X) → ((k : ℕ) (x : X) → i ≤ k → k < i + length xs → f k x ≡ g k x) → map_from f i xs ≡ map_from g i xs
+  pub map_from-alike : (f g : ℕ → X → Y) (i : ℕ) (xs : List X) → ((k : ℕ) (x : X) → i ≤ k → k < i + length xs → f k x ≡ g k x)
+      → map_from f i xs ≡ map_from g i xs
   map_from-alike f g i [] same = refl
   map_from-alike f g i (x ∷ xs) same =
       let here : f i x ≡ g i x = same i x (omega arith) (omega arith) in
@@ -17,7 +18,8 @@ module _ {X Y : Type 0} where
       cc
 
 -- a function that leaves each member as it is
-pub map_from-kept : {X : Type 0} (f : ℕ → X → X) (i : ℕ) (xs : List X) → ((k : ℕ) (x : X) → i ≤ k → k < i + length xs → f k x ≡ x) → map_from f i xs ≡ xs
+pub map_from-kept : {X : Type 0} (f : ℕ → X → X) (i : ℕ) (xs : List X) → ((k : ℕ) (x : X) → i ≤ k → k < i + length xs → f k x ≡ x)
+    → map_from f i xs ≡ xs
 map_from-kept f i [] same = refl
 map_from-kept f i (x ∷ xs) same =
     let here : f i x ≡ x = same i x (omega arith) (omega arith) in
@@ -58,7 +60,8 @@ map_from-filled f g t i (suc a) n (x ∷ xs) m before within behind =
     cc
 
 -- before the first row nothing is filled
-pub set_cells-none : (r : Rectangle) (row : ℕ) (tile : Tile) (xs : List Tile) → row + 1 ≤ r.top → xs ≡ set_cells (record r { bottom = row }) tile xs
+pub set_cells-none : (r : Rectangle) (row : ℕ) (tile : Tile) (xs : List Tile) → row + 1 ≤ r.top
+    → xs ≡ set_cells (record r { bottom = row }) tile xs
 set_cells-none r row tile xs top = sym (map_from-kept _ 0 xs (λ k x p q. rw (inside-none r.left r.right r.top row k top) refl))
 
 -- one row more

@@ -28,7 +28,9 @@ front n t = n ∷ t
 
 -- an op of two fields
 pair_completes : (v : ℕ) {A B : Type 0} {good_a : A → Type 0} {spell_a : A → List ℕ} {read_a : List ℕ → Field A} {good_b : B → Type 0} {spell_b : B → List ℕ} {read_b : List ℕ → Field B} (first : IsField good_a spell_a read_a) (second : IsField good_b spell_b read_b) (n : ℕ) (make : A → B → Op)
-    → ((a : A) (b : B) → good_a a → good_b b → IsOpIn v (make a b)) → ((a : A) (b : B) → op_text (make a b) ≡ front n (spell_a a ++ spell_b b)) → Completes (IsOpIn v) op_text (front n) (pair_at make read_a read_b)
+    → ((a : A) (b : B) → good_a a → good_b b → IsOpIn v (make a b))
+    → ((a : A) (b : B) → op_text (make a b) ≡ front n (spell_a a ++ spell_b b))
+    → Completes (IsOpIn v) op_text (front n) (pair_at make read_a read_b)
 pair_completes v {A} {B} {good_a} {spell_a} {read_a} {good_b} {spell_b} {read_b} first second n make good same =
     takes_then first (IsOpIn v) op_text (front n) _
     (λ a ga. takes_then second (IsOpIn v) op_text (λ t. front n (spell_a a ++ t)) _
@@ -57,17 +59,20 @@ unfolding set_stat_at
 set_stat_completes v = pair_completes v stat_name_field stat_setting_field 9 SetStat (λ s x gs gx. ((gs, gx), tt)) (λ s x. refl)
 
 -- a text and a range of its bytes, spelled one behind the other
-range_behind : (t : TextId) (r : ByteRange) → text_name t ++ stamp r.stamp ++ number 4 r.first ++ number 4 r.last ≡ text_name t ++ range_text r
+range_behind : (t : TextId) (r : ByteRange)
+    → text_name t ++ stamp r.stamp ++ number 4 r.first ++ number 4 r.last ≡ text_name t ++ range_text r
 range_behind t r =
     append_assoc (text_name t ++ stamp r.stamp) (number 4 r.first) (number 4 r.last) ∙ append_assoc (text_name t) (stamp r.stamp) (number 4 r.first ++ number 4 r.last)
     ∙ ap (λ (x : List ℕ). text_name t ++ x) (sym (append_assoc (stamp r.stamp) (number 4 r.first) (number 4 r.last)))
 
 text_delete_completes : (v : ℕ) → Completes (IsOpIn v) op_text (front 12) text_delete_at
 unfolding text_delete_at
-text_delete_completes v = pair_completes v text_name_field range_field 12 TextDelete (λ t r gt gr. ((gt, gr), tt)) (λ t r. ap (front 12) (range_behind t r))
+text_delete_completes v =
+    pair_completes v text_name_field range_field 12 TextDelete (λ t r gt gr. ((gt, gr), tt)) (λ t r. ap (front 12) (range_behind t r))
 
 -- an op that takes all the bytes
-takes_whole : (v : ℕ) (n : ℕ) (build : List ℕ → Op) → ((t : List ℕ) → IsOpIn v (build t)) → ((t : List ℕ) → front n t ≡ op_text (build t)) → Completes (IsOpIn v) op_text (front n) (λ bytes. Ok (build bytes, []))
+takes_whole : (v : ℕ) (n : ℕ) (build : List ℕ → Op) → ((t : List ℕ) → IsOpIn v (build t)) → ((t : List ℕ) → front n t ≡ op_text (build t))
+    → Completes (IsOpIn v) op_text (front n) (λ bytes. Ok (build bytes, []))
 takes_whole v n build g same = record {
   takes = λ bytes x fits e.
       let P : Op × List ℕ → Type 0 = λ y. (front n bytes ≡ op_text y.0 ++ y.1) × IsBytes y.1 × IsOpIn v y.0 in
@@ -82,17 +87,22 @@ text_insert_completes v =
     (λ b gb. takes_then (optional_field element_name_field) (IsOpIn v) op_text (λ t. 11 ∷ (text_name b ++ t)) _
     (λ a ga. record {
       takes = λ bytes x fits e.
-          let P : Op × List ℕ → Type 0 = λ y. (11 ∷ (text_name b ++ (optional element_name a ++ bytes)) ≡ op_text y.0 ++ y.1) × IsBytes y.1 × IsOpIn v y.0 in
+          let P : Op × List ℕ → Type 0 =
+          λ y. (11 ∷ (text_name b ++ (optional element_name a ++ bytes)) ≡ op_text y.0 ++ y.1) × IsBytes y.1 × IsOpIn v y.0 in
           let none : IsBytes [] = λ i. omega arith in
-          let same : 11 ∷ (text_name b ++ (optional element_name a ++ bytes)) ≡ op_text (TextInsert b a bytes) ++ [] = ap (λ (t : List ℕ). 11 ∷ t) (sym (append_assoc (text_name b) (optional element_name a) bytes)) ∙ sym (append-nil (op_text (TextInsert b a bytes))) in
+          let same : 11 ∷ (text_name b ++ (optional element_name a ++ bytes)) ≡ op_text (TextInsert b a bytes) ++ [] =
+          ap (λ (t : List ℕ). 11 ∷ t) (sym (append_assoc (text_name b) (optional element_name a) bytes))
+          ∙ sym (append-nil (op_text (TextInsert b a bytes))) in
           subst P (ok_is (TextInsert b a bytes, []) x e) (same, none, ((gb, ga), tt));
     }))
 
 -- at a number that a test found
-takes_at : (v : ℕ) (n f : ℕ) (read : List ℕ → Field Op) → f ≡ n → Completes (IsOpIn v) op_text (front n) read → Completes (IsOpIn v) op_text (front f) read
+takes_at : (v : ℕ) (n f : ℕ) (read : List ℕ → Field Op) → f ≡ n → Completes (IsOpIn v) op_text (front n) read
+    → Completes (IsOpIn v) op_text (front f) read
 takes_at v n f read e c = subst (λ (k : ℕ). Completes (IsOpIn v) op_text (front k) read) (sym e) c
 
-mapped_at : (v : ℕ) {A : Type 0} {good : A → Type 0} {spell : A → List ℕ} {read : List ℕ → Field A} (field : IsField good spell read) (n : ℕ) (build : A → Op) → ((a : A) → good a → IsOpIn v (build a)) → ((a : A) (t : List ℕ) → front n (spell a ++ t) ≡ op_text (build a) ++ t)
+mapped_at : (v : ℕ) {A : Type 0} {good : A → Type 0} {spell : A → List ℕ} {read : List ℕ → Field A} (field : IsField good spell read) (n : ℕ) (build : A → Op)
+    → ((a : A) → good a → IsOpIn v (build a)) → ((a : A) (t : List ℕ) → front n (spell a ++ t) ≡ op_text (build a) ++ t)
     → Completes (IsOpIn v) op_text (front n) (λ bytes. mapped build (read bytes))
 mapped_at v field n build g same = takes_mapped field (IsOpIn v) op_text (front n) build g same
 
@@ -130,10 +140,13 @@ abbrev Again : ℕ → Op → Type 0
 Again v op = (byte_at (op_text op) >>= λ n. op_at v n.0 n.1) ≡ Ok (op, [])
 
 -- one field that ends the body
-last : {A : Type 0} {good : A → Type 0} {spell : A → List ℕ} {read : List ℕ → Field A} (field : IsField good spell read) (a : A) → good a → read (spell a) ≡ Ok (a, [])
+last : {A : Type 0} {good : A → Type 0} {spell : A → List ℕ} {read : List ℕ → Field A} (field : IsField good spell read) (a : A) → good a
+    → read (spell a) ≡ Ok (a, [])
 last {read} field a g = ap read (sym (append-nil _)) ∙ field.again a [] g
 
-last_mapped : {A : Type 0} {good : A → Type 0} {spell : A → List ℕ} {read : List ℕ → Field A} (field : IsField good spell read) (build : A → Op) (a : A) → good a → mapped build (read (spell a)) ≡ Ok (build a, [])
+last_mapped : {A : Type 0} {good : A → Type 0} {spell : A → List ℕ} {read : List ℕ → Field A} (field : IsField good spell read) (build : A → Op) (a : A)
+    → good a
+    → mapped build (read (spell a)) ≡ Ok (build a, [])
 last_mapped {A} field build a g = ap (λ (x : Field A). mapped build x) (last field a g)
 
 abbrev pair_built : {A B : Type 0} → (A → B → Op) → A → B × List ℕ → Field Op

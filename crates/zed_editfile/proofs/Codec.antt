@@ -36,10 +36,12 @@ pub record IsField {A : Type 0} (good : A → Type 0) (spell : A → List ℕ) (
 
 -- what reads on behind a front completes the spelling of a value
 pub record Completes {C : Type 0} (good : C → Type 0) (spell : C → List ℕ) (front : List ℕ → List ℕ) (read : List ℕ → Field C) : Type 0 where
-  pub takes : (bytes : List ℕ) (x : C × List ℕ) → IsBytes bytes → read bytes ≡ Ok x → (front bytes ≡ spell x.0 ++ x.1) × IsBytes x.1 × good x.0
+  pub takes : (bytes : List ℕ) (x : C × List ℕ) → IsBytes bytes → read bytes ≡ Ok x
+      → (front bytes ≡ spell x.0 ++ x.1) × IsBytes x.1 × good x.0
 
 pub takes_then : {A C : Type 0} {good_a : A → Type 0} {spell_a : A → List ℕ} {read_a : List ℕ → Field A} (field : IsField good_a spell_a read_a) (good : C → Type 0) (spell : C → List ℕ) (front : List ℕ → List ℕ) (k : A × List ℕ → Field C)
-    → ((a : A) → good_a a → Completes good spell (λ t. front (spell_a a ++ t)) (λ t. k (a, t))) → Completes good spell front (λ bytes. read_a bytes >>= k)
+    → ((a : A) → good_a a → Completes good spell (λ t. front (spell_a a ++ t)) (λ t. k (a, t)))
+    → Completes good spell front (λ bytes. read_a bytes >>= k)
 takes_then {A} {C} {good_a} {spell_a} {read_a} field good spell front k h = record {
   takes = λ bytes x fits e.
       let b = bind_ok (read_a bytes) k x e in
@@ -48,7 +50,9 @@ takes_then {A} {C} {good_a} {spell_a} {read_a} field good spell front k h = reco
       (ap front t.parts ∙ r.0, r.1, r.2);
 }
 
-pub takes_end : {C : Type 0} (good : C → Type 0) (spell : C → List ℕ) (front : List ℕ → List ℕ) (c : C) → good c → ((t : List ℕ) → front t ≡ spell c ++ t) → Completes good spell front (λ t. Ok (c, t))
+pub takes_end : {C : Type 0} (good : C → Type 0) (spell : C → List ℕ) (front : List ℕ → List ℕ) (c : C) → good c
+    → ((t : List ℕ) → front t ≡ spell c ++ t)
+    → Completes good spell front (λ t. Ok (c, t))
 takes_end {C} good spell front c g same = record {
   takes = λ bytes x fits e.
       let P : C × List ℕ → Type 0 = λ y. (front bytes ≡ spell y.0 ++ y.1) × IsBytes y.1 × good y.0 in
@@ -56,31 +60,39 @@ takes_end {C} good spell front c g same = record {
 }
 
 pub takes_mapped : {A C : Type 0} {good_a : A → Type 0} {spell_a : A → List ℕ} {read_a : List ℕ → Field A} (field : IsField good_a spell_a read_a) (good : C → Type 0) (spell : C → List ℕ) (front : List ℕ → List ℕ) (f : A → C)
-    → ((a : A) → good_a a → good (f a)) → ((a : A) (t : List ℕ) → front (spell_a a ++ t) ≡ spell (f a) ++ t) → Completes good spell front (λ bytes. mapped f (read_a bytes))
+    → ((a : A) → good_a a → good (f a)) → ((a : A) (t : List ℕ) → front (spell_a a ++ t) ≡ spell (f a) ++ t)
+    → Completes good spell front (λ bytes. mapped f (read_a bytes))
 takes_mapped {A} {C} {good_a} {spell_a} {read_a} field good spell front f g same =
     takes_then field good spell front (λ x. Ok (f x.0, x.1)) (λ a ga. takes_end good spell (λ t. front (spell_a a ++ t)) (f a) (g a ga) (same a))
 
 pub takes_choice : {C : Type 0} (good : C → Type 0) (spell : C → List ℕ) (front : List ℕ → List ℕ) (b : Bool) (r s : List ℕ → Field C)
-    → (b ≡ true → Completes good spell front r) → (b ≡ false → Completes good spell front s) → Completes good spell front (λ bytes. cond b (r bytes) (s bytes))
+    → (b ≡ true → Completes good spell front r) → (b ≡ false → Completes good spell front s)
+    → Completes good spell front (λ bytes. cond b (r bytes) (s bytes))
 takes_choice good spell front true r s g h = g refl
 takes_choice good spell front false r s g h = h refl
 
 -- a register of a kind, if the number is of that kind
 pub takes_kind : {A C : Type 0} (good : C → Type 0) (spell : C → List ℕ) (front : List ℕ → List ℕ) (o : Option A) (r : A → List ℕ → Field C) (s : List ℕ → Field C)
-    → ((a : A) → o ≡ Some a → Completes good spell front (r a)) → (o ≡ None → Completes good spell front s) → Completes good spell front (λ bytes. by_kind o (λ a. r a bytes) (s bytes))
+    → ((a : A) → o ≡ Some a → Completes good spell front (r a)) → (o ≡ None → Completes good spell front s)
+    → Completes good spell front (λ bytes. by_kind o (λ a. r a bytes) (s bytes))
 takes_kind good spell front None r s g h = h refl
 takes_kind good spell front (Some a) r s g h = g a refl
 
 -- a value that is found where a test holds, or else elsewhere
-pub some_if : {A : Type 0} (P : A → Type 0) (b : Bool) (x y : A) (o : Option A) → (b ≡ true → P x) → (o ≡ Some y → P y) → cond b (Some x) o ≡ Some y → P y
+pub some_if : {A : Type 0} (P : A → Type 0) (b : Bool) (x y : A) (o : Option A) → (b ≡ true → P x) → (o ≡ Some y → P y)
+    → cond b (Some x) o ≡ Some y
+    → P y
 some_if P true x y o g h e = let same : x ≡ y = cc in subst P same (g refl)
 some_if P false x y o g h e = h e
 
-pub takes_none : {C : Type 0} (good : C → Type 0) (spell : C → List ℕ) (front : List ℕ → List ℕ) (d : EditFileError) → Completes good spell front (λ bytes. Err d)
+pub takes_none : {C : Type 0} (good : C → Type 0) (spell : C → List ℕ) (front : List ℕ → List ℕ) (d : EditFileError)
+    → Completes good spell front (λ bytes. Err d)
 takes_none good spell front d = record { takes = λ bytes x fits e. absurd cc }
 
 -- a value that completes itself
-pub takes_all : {C : Type 0} (good : C → Type 0) (spell : C → List ℕ) (read : List ℕ → Field C) → Completes good spell (λ t. t) read → (bytes : List ℕ) (x : C × List ℕ) → IsBytes bytes → read bytes ≡ Ok x → Takes good spell bytes x
+pub takes_all : {C : Type 0} (good : C → Type 0) (spell : C → List ℕ) (read : List ℕ → Field C) → Completes good spell (λ t. t) read
+    → (bytes : List ℕ) (x : C × List ℕ) → IsBytes bytes → read bytes ≡ Ok x
+    → Takes good spell bytes x
 takes_all good spell read c bytes x fits e = let t = c.takes bytes x fits e in record { parts = t.0; behind = t.1; fits = t.2 }
 
 -- a field that is read again, and what is read behind it
@@ -88,7 +100,9 @@ pub again_then : {A C : Type 0} {good_a : A → Type 0} {spell_a : A → List �
     → good_a a → k (a, text) ≡ r → (read_a (spell_a a ++ text) >>= k) ≡ r
 again_then {A} {C} field k text r a g h = ap (λ (x : Field A). x >>= k) (field.again a text g) ∙ h
 
-pub again_mapped : {A C : Type 0} {good_a : A → Type 0} {spell_a : A → List ℕ} {read_a : List ℕ → Field A} (field : IsField good_a spell_a read_a) (f : A → C) (text : List ℕ) (a : A) → good_a a → mapped f (read_a (spell_a a ++ text)) ≡ Ok (f a, text)
+pub again_mapped : {A C : Type 0} {good_a : A → Type 0} {spell_a : A → List ℕ} {read_a : List ℕ → Field A} (field : IsField good_a spell_a read_a) (f : A → C) (text : List ℕ) (a : A)
+    → good_a a
+    → mapped f (read_a (spell_a a ++ text)) ≡ Ok (f a, text)
 again_mapped {A} {C} field f text a g = ap (λ (x : Field A). mapped f x) (field.again a text g)
 
 -- ---- kinds of fields
@@ -119,7 +133,8 @@ number_takes n bytes x fits e =
     let g = guard_ok (ltb (length bytes) n) (BadEdit Short) (Ok (little_number n bytes, drop n bytes)) x e in
     let long : n ≤ length bytes = ltb-false _ _ g.0 in
     let P : ℕ × List ℕ → Type 0 = λ y. Takes (IsNumber n) (number n) bytes y in
-    let parts : bytes ≡ number n (little_number n bytes) ++ drop n bytes = sym (take-append-drop n bytes) ∙ ap (λ (t : List ℕ). t ++ drop n bytes) (sym (number_is n bytes fits long)) in
+    let parts : bytes ≡ number n (little_number n bytes) ++ drop n bytes =
+    sym (take-append-drop n bytes) ∙ ap (λ (t : List ℕ). t ++ drop n bytes) (sym (number_is n bytes fits long)) in
     subst P (ok_is (little_number n bytes, drop n bytes) x g.1) (record { parts = parts; behind = IsBytes-drop n bytes fits; fits = number_below n bytes fits })
 
 number_again : (n x : ℕ) (rest : List ℕ) → x < 256 ^ n → number_at n (number n x ++ rest) ≡ Ok (x, rest)
@@ -194,7 +209,9 @@ string_takes bytes x fits e =
     let g = guard_ok (ltb (length n.1) n.0) (BadEdit Short) (Ok (take n.0 n.1, drop n.0 n.1)) x b.2 in
     let long : n.0 ≤ length n.1 = ltb-false _ _ g.0 in
     let len : length (take n.0 n.1) ≡ n.0 = omega (arith, length-take n.0 n.1) in
-    let whole : bytes ≡ string (take n.0 n.1) ++ drop n.0 n.1 = t.parts ∙ ap (λ (r : List ℕ). n.0 ∷ r) (sym (take-append-drop n.0 n.1)) ∙ ap (λ (k : ℕ). k ∷ (take n.0 n.1 ++ drop n.0 n.1)) (sym len) in
+    let whole : bytes ≡ string (take n.0 n.1) ++ drop n.0 n.1 =
+    t.parts ∙ ap (λ (r : List ℕ). n.0 ∷ r) (sym (take-append-drop n.0 n.1))
+    ∙ ap (λ (k : ℕ). k ∷ (take n.0 n.1 ++ drop n.0 n.1)) (sym len) in
     let lt : n.0 < 256 = t.fits in
     let short : length (take n.0 n.1) < 256 = omega (arith, len) in
     let P : List ℕ × List ℕ → Type 0 = λ y. Takes IsString string bytes y in

@@ -25,14 +25,16 @@ pub is_bad : (v : ℕ) (b : List ℕ) → 4 ≤ length b → is_length (little_n
 unfolding record_stop
 is_bad v b le bad = let t : ltb (length b) 4 ≡ false = le-ltb _ _ le in rw (t, bad) refl
 
-pub is_cut : (v : ℕ) (b : List ℕ) → 4 ≤ length b → is_length (little_number 4 b) ≡ true → length (drop 4 b) < little_number 4 b → record_stop v b ≡ waits b
+pub is_cut : (v : ℕ) (b : List ℕ) → 4 ≤ length b → is_length (little_number 4 b) ≡ true → length (drop 4 b) < little_number 4 b
+    → record_stop v b ≡ waits b
 unfolding record_stop
 is_cut v b le good lt =
     let t : ltb (length b) 4 ≡ false = le-ltb _ _ le in
     let u : ltb (length (drop 4 b)) (little_number 4 b) ≡ true = lt-ltb _ _ lt in
     rw (t, good, u) refl
 
-pub is_whole : (v : ℕ) (b : List ℕ) → 4 ≤ length b → is_length (little_number 4 b) ≡ true → little_number 4 b ≤ length (drop 4 b) → record_stop v b ≡ fault_of (edit_at v (body_at b))
+pub is_whole : (v : ℕ) (b : List ℕ) → 4 ≤ length b → is_length (little_number 4 b) ≡ true → little_number 4 b ≤ length (drop 4 b)
+    → record_stop v b ≡ fault_of (edit_at v (body_at b))
 unfolding record_stop
 is_whole v b le good long =
     let t : ltb (length b) 4 ≡ false = le-ltb _ _ le in
@@ -137,7 +139,8 @@ fault_stays v b x e h = elim (front_cases b) [
 
 -- ---- a length and a body
 
-pub frames_at : (b : List ℕ) (n : ℕ) → IsBytes b → 4 ≤ length b → n ≡ little_number 4 b → is_length n ≡ true → n ≤ length (drop 4 b) → Frames b (take n (drop 4 b)) (drop n (drop 4 b))
+pub frames_at : (b : List ℕ) (n : ℕ) → IsBytes b → 4 ≤ length b → n ≡ little_number 4 b → is_length n ≡ true → n ≤ length (drop 4 b)
+    → Frames b (take n (drop 4 b)) (drop n (drop 4 b))
 frames_at b n fits le is good long =
     let len : length (take n (drop 4 b)) ≡ n = omega (arith, length-take n (drop 4 b)) in
     let number_front : number 4 n ≡ take 4 b = ap (number 4) is ∙ number_is 4 b fits le in
@@ -160,13 +163,16 @@ pub frame_behind : (b body after : List ℕ) → Frames b body after → drop 4 
 frame_behind b body after f = ap (drop 4) f.parts ∙ drop_at (number 4 (length body)) (body ++ after) 4 (length_number 4 (length body))
 
 pub frame_body : (b body after : List ℕ) → Frames b body after → body_at b ≡ body
-frame_body b body after f = ap (λ (k : ℕ). take k (drop 4 b)) (frame_number b body after f) ∙ ap (take (length body)) (frame_behind b body after f) ∙ take_at body after (length body) refl
+frame_body b body after f =
+    ap (λ (k : ℕ). take k (drop 4 b)) (frame_number b body after f) ∙ ap (take (length body)) (frame_behind b body after f)
+    ∙ take_at body after (length body) refl
 
 pub frame_whole : (b body after : List ℕ) → Frames b body after → IsWhole b
 frame_whole b body after f =
     let same : little_number 4 b ≡ length body = frame_number b body after f in
     let behind : drop 4 b ≡ body ++ after = frame_behind b body after f in
-    let len : length b ≡ length (number 4 (length body)) + length (body ++ after) = ap length f.parts ∙ length-append (number 4 (length body)) (body ++ after) in
+    let len : length b ≡ length (number 4 (length body)) + length (body ++ after) =
+    ap length f.parts ∙ length-append (number 4 (length body)) (body ++ after) in
     let four : length (number 4 (length body)) ≡ 4 = length_number 4 (length body) in
     record { long = omega (arith, len, four); good = ap is_length same ∙ f.long; whole = rw (same, behind) (omega (arith, length-append body after)) }
 
@@ -175,7 +181,8 @@ frame_stop v b body after f = let w = frame_whole b body after f in is_whole v b
 
 pub frame_shorter : (b body after : List ℕ) → Frames b body after → length after < length b
 frame_shorter b body after f =
-    let len : length b ≡ length (number 4 (length body)) + length (body ++ after) = ap length f.parts ∙ length-append (number 4 (length body)) (body ++ after) in
+    let len : length b ≡ length (number 4 (length body)) + length (body ++ after) =
+    ap length f.parts ∙ length-append (number 4 (length body)) (body ++ after) in
     omega (arith, len, length_number 4 (length body), length-append body after)
 
 -- ---- what a list gains
@@ -183,18 +190,23 @@ frame_shorter b body after f =
 pub no_gain : (v : ℕ) (before after : List Edit) (b : List ℕ) → after ≡ before → Gains v before after b b
 no_gain v before after b e = record { edits = []; gained = e ∙ sym (append-nil before); good = tt; spelled = tt; whole = refl }
 
-pub one_gain : (v : ℕ) (before after : List Edit) (b body rest : List ℕ) (e : Edit) → IsBytes b → Frames b body rest → edit_at v body ≡ Ok e → after ≡ before ++ e ∷ [] → Gains v before after b rest
+pub one_gain : (v : ℕ) (before after : List Edit) (b body rest : List ℕ) (e : Edit) → IsBytes b → Frames b body rest → edit_at v body ≡ Ok e
+    → after ≡ before ++ e ∷ []
+    → Gains v before after b rest
 unfolding record_text
 one_gain v before after b body rest e fits f read is =
     let inner : IsBytes (number 4 (length body) ++ (body ++ rest)) = subst (λ (t : List ℕ). IsBytes t) f.parts fits in
     let body_fits : IsBytes body = IsBytes-front body rest (IsBytes-behind (number 4 (length body)) (body ++ rest) inner) in
     let t = edit_takes v body e body_fits read in
-    let text : b ≡ record_text e ++ rest = f.parts ∙ sym (append_assoc (number 4 (length body)) body rest) ∙ ap (λ (t : List ℕ). (number 4 (length t) ++ t) ++ rest) t.0 in
+    let text : b ≡ record_text e ++ rest =
+    f.parts ∙ sym (append_assoc (number 4 (length body)) body rest) ∙ ap (λ (t : List ℕ). (number 4 (length t) ++ t) ++ rest) t.0 in
     record { edits = e ∷ []; gained = is; good = ((t.2, t.1, ap (λ (b : List ℕ). is_length (length b)) (sym t.0) ∙ f.long), tt); spelled = (t.3, tt); whole = text ∙ ap (λ (t : List ℕ). t ++ rest) (sym (append-nil (record_text e))) }
 
 pub flat_both : (es fs : List Edit) → flat_map record_text (es ++ fs) ≡ flat_map record_text es ++ flat_map record_text fs
 flat_both [] fs = refl
-flat_both (e ∷ es) fs = ap (λ (t : List ℕ). record_text e ++ t) (flat_both es fs) ∙ sym (append_assoc (record_text e) (flat_map record_text es) (flat_map record_text fs))
+flat_both (e ∷ es) fs =
+    ap (λ (t : List ℕ). record_text e ++ t) (flat_both es fs)
+    ∙ sym (append_assoc (record_text e) (flat_map record_text es) (flat_map record_text fs))
 
 pub records_both : (es fs : List Edit) → AreRecords es → AreRecords fs → AreRecords (es ++ fs)
 records_both [] fs a b = b
@@ -210,7 +222,10 @@ gain_on v x y z b c d g h = record {
   gained = h.gained ∙ ap (λ (t : List Edit). t ++ h.edits) g.gained ∙ append_assoc x g.edits h.edits;
   good = records_both g.edits h.edits g.good h.good;
   spelled = spelled_both v g.edits h.edits g.spelled h.spelled;
-  whole = g.whole ∙ ap (λ (t : List ℕ). flat_map record_text g.edits ++ t) h.whole ∙ sym (append_assoc (flat_map record_text g.edits) (flat_map record_text h.edits) d) ∙ ap (λ (t : List ℕ). t ++ d) (sym (flat_both g.edits h.edits));
+  whole =
+      g.whole ∙ ap (λ (t : List ℕ). flat_map record_text g.edits ++ t) h.whole
+      ∙ sym (append_assoc (flat_map record_text g.edits) (flat_map record_text h.edits) d)
+      ∙ ap (λ (t : List ℕ). t ++ d) (sym (flat_both g.edits h.edits));
 }
 
 -- the same with more bytes behind
@@ -219,7 +234,9 @@ gain_longer v x y b c d g = record { edits = g.edits; gained = g.gained; good = 
 
 -- ---- as the code goes
 
-pub framed : (b rest body after : List ℕ) (n : ℕ) → IsBytes b → (4 ≤ length b) × (n ≡ little_number 4 b) × (is_length n ≡ true) → rest ≡ drop 4 b → n ≤ length rest → body ≡ take n rest → after ≡ drop n rest → Frames b body after
+pub framed : (b rest body after : List ℕ) (n : ℕ) → IsBytes b → (4 ≤ length b) × (n ≡ little_number 4 b) × (is_length n ≡ true)
+    → rest ≡ drop 4 b → n ≤ length rest → body ≡ take n rest → after ≡ drop n rest
+    → Frames b body after
 framed b rest body after n fits h r long e f =
     let le : n ≤ length (drop 4 b) = subst (λ (t : List ℕ). n ≤ length t) r long in
     rw (e, f, r) (frames_at b n fits h.0 h.1 h.2 le)
@@ -234,8 +251,11 @@ frame_wants v b body after f w =
     let P : List ℕ → Type 0 = λ t. IsOk (edit_at v t) ⊎ SpellsString v t in
     ((whole.long, whole.good), inr (subst P (sym (frame_body b body after f)) w))
 
-pub frame_fault : (v : ℕ) (b body after : List ℕ) (e : EditFileError) → Frames b body after → ((e ≡ Memory) × SpellsString v body) ⊎ (edit_at v body ≡ Err e) → ((e ≡ Memory) × MayWantMemory v b) ⊎ (record_stop v b ≡ fails e)
-frame_fault v b body after e f h = elim h [ inl m ↦ inl (m.0, frame_wants v b body after f (inr m.1)) | inr r ↦ inr (frame_stop v b body after f ∙ ap fault_of r) ]
+pub frame_fault : (v : ℕ) (b body after : List ℕ) (e : EditFileError) → Frames b body after
+    → ((e ≡ Memory) × SpellsString v body) ⊎ (edit_at v body ≡ Err e)
+    → ((e ≡ Memory) × MayWantMemory v b) ⊎ (record_stop v b ≡ fails e)
+frame_fault v b body after e f h =
+    elim h [ inl m ↦ inl (m.0, frame_wants v b body after f (inr m.1)) | inr r ↦ inr (frame_stop v b body after f ∙ ap fault_of r) ]
 
 is_ok : (r : Result Edit EditFileError) (e : Edit) → r ≡ Ok e → IsOk r
 is_ok (Ok x) e h = refl
@@ -259,28 +279,39 @@ pub behind_length : (v : ℕ) (kept bytes tail : List ℕ) → MayWantMemoryBehi
 behind_length v kept bytes tail h = elim h [ inl began ↦ began.2 | inr wants ↦ wants.0 ]
 
 -- a fault of the front is one of the whole
-pub fault_on : (v : ℕ) (total k l old : List ℕ) (e : EditFileError) → k ++ l ≡ total → 0 < length old → ((e ≡ Memory) × MayWantMemory v k) ⊎ (record_stop v k ≡ fails e) → ((e ≡ Memory) × (0 < length old) × HasLength total) ⊎ (record_stop v total ≡ fails e)
+pub fault_on : (v : ℕ) (total k l old : List ℕ) (e : EditFileError) → k ++ l ≡ total → 0 < length old
+    → ((e ≡ Memory) × MayWantMemory v k) ⊎ (record_stop v k ≡ fails e)
+    → ((e ≡ Memory) × (0 < length old) × HasLength total) ⊎ (record_stop v total ≡ fails e)
 fault_on v total k l old e whole some h = elim h [ inl m ↦ inl (m.0, some, length_on total k l whole m.1.0) | inr r ↦ inr (ap (record_stop v) (sym whole) ∙ fault_stays v k l e r) ]
 
 -- the same of a record that began in earlier pieces
-pub began_fault : (v : ℕ) (kept total : List ℕ) (e : EditFileError) → ((e ≡ Memory) × (0 < length kept) × HasLength total) ⊎ (record_stop v total ≡ fails e) → ((e ≡ Memory) × MayWantMemoryBehind v kept total total) ⊎ (record_stop v total ≡ fails e)
+pub began_fault : (v : ℕ) (kept total : List ℕ) (e : EditFileError)
+    → ((e ≡ Memory) × (0 < length kept) × HasLength total) ⊎ (record_stop v total ≡ fails e)
+    → ((e ≡ Memory) × MayWantMemoryBehind v kept total total) ⊎ (record_stop v total ≡ fails e)
 began_fault v kept total e h = elim h [ inl m ↦ inl (m.0, inl (m.1, refl, m.2)) | inr r ↦ inr r ]
 
 -- and of one behind it
-pub behind_fault : (v : ℕ) (kept total tail : List ℕ) (e : EditFileError) → ((e ≡ Memory) × MayWantMemory v tail) ⊎ (record_stop v tail ≡ fails e) → ((e ≡ Memory) × MayWantMemoryBehind v kept total tail) ⊎ (record_stop v tail ≡ fails e)
+pub behind_fault : (v : ℕ) (kept total tail : List ℕ) (e : EditFileError)
+    → ((e ≡ Memory) × MayWantMemory v tail) ⊎ (record_stop v tail ≡ fails e)
+    → ((e ≡ Memory) × MayWantMemoryBehind v kept total tail) ⊎ (record_stop v tail ≡ fails e)
 behind_fault v kept total tail e h = elim h [ inl m ↦ inl (m.0, inr m.1) | inr r ↦ inr r ]
 
-pub bad_on : (v : ℕ) (total k l : List ℕ) (e : EditFileError) → k ++ l ≡ total → (e ≡ RecordLength) × (4 ≤ length k) × (is_length (little_number 4 k) ≡ false) → record_stop v total ≡ fails e
+pub bad_on : (v : ℕ) (total k l : List ℕ) (e : EditFileError) → k ++ l ≡ total
+    → (e ≡ RecordLength) × (4 ≤ length k) × (is_length (little_number 4 k) ≡ false)
+    → record_stop v total ≡ fails e
 bad_on v total k l e whole h = ap (record_stop v) (sym whole) ∙ fault_stays v k l e (is_bad v k h.1 h.2 ∙ ap fails (sym h.0))
 
-pub short_on : (v : ℕ) (total k l : List ℕ) → k ++ l ≡ total → (length k < 4 → l ≡ []) → length k < 4 → (k ≡ total) × (record_stop v k ≡ waits k)
+pub short_on : (v : ℕ) (total k l : List ℕ) → k ++ l ≡ total → (length k < 4 → l ≡ []) → length k < 4
+    → (k ≡ total) × (record_stop v k ≡ waits k)
 short_on v total k l whole none lt = (sym (append-nil k) ∙ ap (λ (t : List ℕ). k ++ t) (sym (none lt)) ∙ whole, is_short v k lt)
 
 -- the number of a record that goes on is the same
 number_on : (k2 l2 k1 l1 : List ℕ) → k2 ++ l2 ≡ k1 ++ l1 → 4 ≤ length k1 → 4 ≤ length k2 → little_number 4 k2 ≡ little_number 4 k1
 number_on k2 l2 k1 l1 same a b = sym (same_number k2 l2 b) ∙ ap (little_number 4) same ∙ same_number k1 l1 a
 
-pub cut_on : (v : ℕ) (k2 l2 k1 l1 : List ℕ) (n : ℕ) → k2 ++ l2 ≡ k1 ++ l1 → (4 ≤ length k1) × (n ≡ little_number 4 k1) × (is_length n ≡ true) → record_stop v k2 ≡ waits k2 → (length k2 < 4 + n → l2 ≡ []) → k2 ≡ k1 ++ l1
+pub cut_on : (v : ℕ) (k2 l2 k1 l1 : List ℕ) (n : ℕ) → k2 ++ l2 ≡ k1 ++ l1
+    → (4 ≤ length k1) × (n ≡ little_number 4 k1) × (is_length n ≡ true) → record_stop v k2 ≡ waits k2 → (length k2 < 4 + n → l2 ≡ [])
+    → k2 ≡ k1 ++ l1
 cut_on v k2 l2 k1 l1 n same h stop none =
     let less : length k2 < 4 + n = elim (waits_is v k2 k2 stop).1 [
       | inl short ↦ omega arith
@@ -296,7 +327,9 @@ nil_of [] h = refl
 nil_of (x ∷ r) h = absurd (omega arith)
 
 -- a record that was cut has room for no more than its bytes
-pub nothing_left : (k2 l2 k1 l1 r : List ℕ) (n : ℕ) → k2 ++ l2 ≡ k1 ++ l1 → (4 ≤ length k1) × (n ≡ little_number 4 k1) × (is_length n ≡ true) → length k2 ≤ 4 + n → r ≡ drop (little_number 4 k2) (drop 4 k2) → r ≡ []
+pub nothing_left : (k2 l2 k1 l1 r : List ℕ) (n : ℕ) → k2 ++ l2 ≡ k1 ++ l1
+    → (4 ≤ length k1) × (n ≡ little_number 4 k1) × (is_length n ≡ true) → length k2 ≤ 4 + n → r ≡ drop (little_number 4 k2) (drop 4 k2)
+    → r ≡ []
 nothing_left k2 l2 k1 l1 r n same h size is =
     let len : length r ≡ length (drop 4 k2) - little_number 4 k2 = ap length is ∙ length-drop (little_number 4 k2) (drop 4 k2) in
     let all : length (drop 4 k2) ≡ length k2 - 4 = length-drop 4 k2 in
@@ -309,7 +342,9 @@ nothing_left k2 l2 k1 l1 r n same h size is =
     ])
 
 -- a cut record is shorter than its length says
-pub within_size : (v : ℕ) (old k1 : List ℕ) (n : ℕ) → record_stop v old ≡ waits old → (length old ≤ 4 → length k1 ≤ 4) → (4 ≤ length old → k1 ≡ old) → (4 ≤ length k1) × (n ≡ little_number 4 k1) × (is_length n ≡ true) → length k1 ≤ 4 + n
+pub within_size : (v : ℕ) (old k1 : List ℕ) (n : ℕ) → record_stop v old ≡ waits old → (length old ≤ 4 → length k1 ≤ 4)
+    → (4 ≤ length old → k1 ≡ old) → (4 ≤ length k1) × (n ≡ little_number 4 k1) × (is_length n ≡ true)
+    → length k1 ≤ 4 + n
 within_size v old k1 n stop size full h = elim (waits_is v old old stop).1 [
   | inl short ↦ let le : length k1 ≤ 4 = size (omega arith) in omega (arith, le)
   | inr cut ↦

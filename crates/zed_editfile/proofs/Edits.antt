@@ -19,14 +19,16 @@ use Rattle.zed_types.proofs.Steps.{bind_ok, ok_is}
 use Rattle.zed_editfile.proofs.Codec.{byte_field, stamp_field}
 use Rattle.zed_editfile.proofs.Actions.{op_completes, op_again}
 
-choice_ok : {A : Type 0} (b : Bool) (r : Result A EditFileError) (d : EditFileError) (y : A) → cond b r (Err d) ≡ Ok y → (b ≡ true) × (r ≡ Ok y)
+choice_ok : {A : Type 0} (b : Bool) (r : Result A EditFileError) (d : EditFileError) (y : A) → cond b r (Err d) ≡ Ok y
+    → (b ≡ true) × (r ≡ Ok y)
 choice_ok true r d y h = (refl, h)
 choice_ok false r d y h = absurd cc
 
 abbrev ended : Stamp → Op × List ℕ → Result Edit EditFileError
 ended made op = cond (eqb (length op.1) 0) (Ok (record { stamp = made; op = op.0 })) (Err (BadEdit Long))
 
-fields_take : (v : ℕ) (bytes : List ℕ) (e : Edit) → IsBytes bytes → unchecked_edit_at v bytes ≡ Ok e → (bytes ≡ spelling e) × HasSizes e × IsOf v e
+fields_take : (v : ℕ) (bytes : List ℕ) (e : Edit) → IsBytes bytes → unchecked_edit_at v bytes ≡ Ok e
+    → (bytes ≡ spelling e) × HasSizes e × IsOf v e
 unfolding unchecked_edit_at spelling
 fields_take v bytes e fits h =
     let a = bind_ok (stamp_at bytes) (λ made. byte_at made.1 >>= λ n. op_at v n.0 n.1 >>= λ op. ended made.0 op) e h in
@@ -50,7 +52,8 @@ unfaulty None x e h = (refl, ok_is x e h)
 unfaulty (Some c) x e h = absurd cc
 
 -- what is read is spelled so, and fits
-pub edit_takes : (v : ℕ) (bytes : List ℕ) (e : Edit) → IsBytes bytes → edit_at v bytes ≡ Ok e → (bytes ≡ spelling e) × HasSizes e × Fits e × IsOf v e
+pub edit_takes : (v : ℕ) (bytes : List ℕ) (e : Edit) → IsBytes bytes → edit_at v bytes ≡ Ok e
+    → (bytes ≡ spelling e) × HasSizes e × Fits e × IsOf v e
 unfolding edit_at
 edit_takes v bytes e fits h =
     let a = bind_ok (unchecked_edit_at v bytes) (λ x. unless_faulty (fault x) x) e h in
@@ -59,7 +62,8 @@ edit_takes v bytes e fits h =
     let P : Edit → Type 0 = λ x. (bytes ≡ spelling x) × HasSizes x × Fits x × IsOf v x in
     subst P u.1 (t.0, t.1, u.0, t.2)
 
-bind_bind : {A B C : Type 0} (r : Result A EditFileError) (f : A → Result B EditFileError) (k : B → Result C EditFileError) → (r >>= λ x. f x >>= k) ≡ ((r >>= f) >>= k)
+bind_bind : {A B C : Type 0} (r : Result A EditFileError) (f : A → Result B EditFileError) (k : B → Result C EditFileError)
+    → (r >>= λ x. f x >>= k) ≡ ((r >>= f) >>= k)
 bind_bind (Ok x) f k = refl
 bind_bind (Err d) f k = refl
 
@@ -67,7 +71,8 @@ fields_again : (v : ℕ) (e : Edit) → HasSizes e → IsOf v e → unchecked_ed
 unfolding unchecked_edit_at spelling
 fields_again v e room of =
     let k : Op × List ℕ → Result Edit EditFileError = λ op. ended e.stamp op in
-    let second : (byte_at (op_text e.op) >>= λ n. op_at v n.0 n.1 >>= k) ≡ Ok e = bind_bind (byte_at (op_text e.op)) (λ n. op_at v n.0 n.1) k ∙ ap (λ (x : Field Op). x >>= k) (op_again v e.op (room.1, of)) in
+    let second : (byte_at (op_text e.op) >>= λ n. op_at v n.0 n.1 >>= k) ≡ Ok e =
+    bind_bind (byte_at (op_text e.op)) (λ n. op_at v n.0 n.1) k ∙ ap (λ (x : Field Op). x >>= k) (op_again v e.op (room.1, of)) in
     ap (λ (x : Field Stamp). x >>= λ made. byte_at made.1 >>= λ n. op_at v n.0 n.1 >>= λ op. ended made.0 op) (stamp_field.again e.stamp (op_text e.op) room.0) ∙ second
 
 -- what fits is read again

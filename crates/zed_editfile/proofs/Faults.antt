@@ -40,18 +40,21 @@ either : {A : Type 0} (b : Bool) (r s : Result A EditFileError) → NotCut r →
 either true r s h k = h
 either false r s h k = k
 
-steps : {A B : Type 0} (r : Result A EditFileError) (f : A → Result B EditFileError) → NotCut r → ((x : A) → NotCut (f x)) → NotCut (r >>= f)
+steps : {A B : Type 0} (r : Result A EditFileError) (f : A → Result B EditFileError) → NotCut r → ((x : A) → NotCut (f x))
+    → NotCut (r >>= f)
 steps (Ok x) f h k = k x
 steps (Err e) f h k = λ cut. h (let same : e ≡ CutShort = cc in ap (λ (e : EditFileError). Err e) same)
 
 made : {A B : Type 0} (f : A → B) (r : Field A) → NotCut r → NotCut (mapped f r)
 made f r h = steps r (λ x. Ok (f x.0, x.1)) h (λ x. fine (f x.0, x.1))
 
-kinds : {A C : Type 0} (o : Option A) (read : A → Field C) (other : Field C) → ((a : A) → NotCut (read a)) → NotCut other → NotCut (by_kind o read other)
+kinds : {A C : Type 0} (o : Option A) (read : A → Field C) (other : Field C) → ((a : A) → NotCut (read a)) → NotCut other
+    → NotCut (by_kind o read other)
 kinds None read other h k = k
 kinds (Some a) read other h k = h a
 
-pair : {A B : Type 0} (make : A → B → Op) (first : List ℕ → Field A) (second : List ℕ → Field B) → Reader first → Reader second → Reader (pair_at make first second)
+pair : {A B : Type 0} (make : A → B → Op) (first : List ℕ → Field A) (second : List ℕ → Field B) → Reader first → Reader second
+    → Reader (pair_at make first second)
 pair make first second h k bytes =
     steps (first bytes) (λ a. second a.1 >>= λ b. Ok (make a.0 b.0, b.1)) (h bytes) (λ a. steps (second a.1) (λ b. Ok (make a.0 b.0, b.1)) (k a.1) (λ b. fine (make a.0 b.0, b.1)))
 
@@ -261,4 +264,5 @@ stopped left p stop fine (inr is) cut = fine (stop_of p) is cut
 
 pub cut_is_told_at_the_end : CutIsToldAtTheEnd
 cut_is_told_at_the_end bytes found p (inl h) cut = head p.asked bytes (stop_of p) h.stop cut
-cut_is_told_at_the_end bytes found p (inr h) cut = stopped h.tail p (record_stop p.version h.tail) (record_front p.version h.tail) h.stop cut
+cut_is_told_at_the_end bytes found p (inr h) cut =
+    stopped h.tail p (record_stop p.version h.tail) (record_front p.version h.tail) h.stop cut

@@ -54,7 +54,8 @@ abbrev fault_in : Option Stop → Option EditFileError
 fault_in None = None
 fault_in (Some s) = s.fault
 
-fault_is : (o : Option Stop) (bytes : List ℕ) (s : Stop) (e : EditFileError) → Form bytes o → o ≡ some_stop s → s.fault ≡ Some e → (f : EditFileError) × (o ≡ fails f)
+fault_is : (o : Option Stop) (bytes : List ℕ) (s : Stop) (e : EditFileError) → Form bytes o → o ≡ some_stop s → s.fault ≡ Some e
+    → (f : EditFileError) × (o ≡ fails f)
 fault_is o bytes s e form h g = elim form [
   | inl n ↦ let c : None ≡ some_stop s = sym n ∙ h in absurd cc
   | inr (inl w) ↦ let c : None ≡ s.fault = ap fault_in (sym w ∙ h) in let d : None ≡ Some e = c ∙ g in absurd cc
@@ -63,13 +64,16 @@ fault_is o bytes s e form h g = elim form [
 
 -- ---- after a fault
 
-head_ended : (asked : Option ℕ) (h x : List ℕ) (s : Stop) (e : EditFileError) → head_stop asked h ≡ some_stop s → s.fault ≡ Some e → head_stop asked (h ++ x) ≡ some_stop s
+head_ended : (asked : Option ℕ) (h x : List ℕ) (s : Stop) (e : EditFileError) → head_stop asked h ≡ some_stop s → s.fault ≡ Some e
+    → head_stop asked (h ++ x) ≡ some_stop s
 head_ended asked h x s e stop g = let f = fault_is (head_stop asked h) h s e (head_form asked h) stop g in head_stays asked h x f.0 f.1 ∙ sym f.1 ∙ stop
 
-record_ended : (v : ℕ) (b x : List ℕ) (s : Stop) (e : EditFileError) → record_stop v b ≡ some_stop s → s.fault ≡ Some e → record_stop v (b ++ x) ≡ some_stop s
+record_ended : (v : ℕ) (b x : List ℕ) (s : Stop) (e : EditFileError) → record_stop v b ≡ some_stop s → s.fault ≡ Some e
+    → record_stop v (b ++ x) ≡ some_stop s
 record_ended v b x s e stop g = let f = fault_is (record_stop v b) b s e (record_form v b) stop g in fault_stays v b x f.0 f.1 ∙ sym f.1 ∙ stop
 
-pub stays : (bytes x : List ℕ) (found : List Edit) (p : Progress) (e : EditFileError) → p.fault ≡ Some e → Reads bytes found p → Reads (bytes ++ x) (found ++ []) p
+pub stays : (bytes x : List ℕ) (found : List Edit) (p : Progress) (e : EditFileError) → p.fault ≡ Some e → Reads bytes found p
+    → Reads (bytes ++ x) (found ++ []) p
 stays bytes x found p e g r = elim r [
   | inl h ↦
       inl (record {
@@ -88,13 +92,17 @@ stays bytes x found p e g r = elim r [
         known = h.known;
         good = subst (λ (t : List Edit). AreRecords t) (sym (append-nil found)) h.good;
         spelled = subst (λ (t : List Edit). AreOf p.version t) (sym (append-nil found)) h.spelled;
-        whole = ap (λ (t : List ℕ). t ++ x) h.whole ∙ append_assoc (text_of p.version h.number found) h.tail x ∙ ap (λ (t : List Edit). text_of p.version h.number t ++ (h.tail ++ x)) (sym (append-nil found));
-        stop = elim h.stop [ inl m ↦ inl (m.0, length_stays h.tail x m.1) | inr s ↦ inr (record_ended p.version h.tail x (stop_of p) e s g) ];
+        whole =
+            ap (λ (t : List ℕ). t ++ x) h.whole ∙ append_assoc (text_of p.version h.number found) h.tail x
+            ∙ ap (λ (t : List Edit). text_of p.version h.number t ++ (h.tail ++ x)) (sym (append-nil found));
+        stop =
+            elim h.stop [ inl m ↦ inl (m.0, length_stays h.tail x m.1) | inr s ↦ inr (record_ended p.version h.tail x (stop_of p) e s g) ];
       })
 ]
 
 pub feeds_nothing : (x : List ℕ) (before : List Edit) (p : Progress) (e : EditFileError) → p.fault ≡ Some e → Feeds x before before p p
-feeds_nothing x before p e g = record { edits = []; gained = sym (append-nil before); good = tt; reads = λ bytes found r. stays bytes x found p e g r }
+feeds_nothing x before p e g =
+    record { edits = []; gained = sym (append-nil before); good = tt; reads = λ bytes found r. stays bytes x found p e g r }
 
 -- an empty piece changes nothing
 pub feeds_empty : (before : List Edit) (p : Progress) → Feeds [] before before p p
@@ -115,13 +123,16 @@ abbrev moved : Option ℕ → Option ℕ → ℕ → Stop → Progress
 moved asked world version s = record { asked = asked; world = world; version = version; rest = s.rest; fault = s.fault }
 
 -- a reader in the head has all the bytes
-in_head : (asked : Option ℕ) (v : ℕ) (rest bytes : List ℕ) (found : List Edit) → Reads bytes found (at_rest asked None v rest) → (bytes ≡ rest) × (found ≡ []) × (v ≡ 0)
+in_head : (asked : Option ℕ) (v : ℕ) (rest bytes : List ℕ) (found : List Edit) → Reads bytes found (at_rest asked None v rest)
+    → (bytes ≡ rest) × (found ≡ []) × (v ≡ 0)
 in_head asked v rest bytes found r = elim r [
   | inl h ↦ ((head_waits asked bytes rest h.stop).0, h.none, h.version)
   | inr h ↦ let c : None ≡ Some h.number = h.world in absurd cc
 ]
 
-on_head : (asked : Option ℕ) (v : ℕ) (rest x : List ℕ) (before after : List Edit) (s : Stop) → after ≡ before → head_stop asked (rest ++ x) ≡ some_stop s → Feeds x before after (at_rest asked None v rest) (moved asked None v s)
+on_head : (asked : Option ℕ) (v : ℕ) (rest x : List ℕ) (before after : List Edit) (s : Stop) → after ≡ before
+    → head_stop asked (rest ++ x) ≡ some_stop s
+    → Feeds x before after (at_rest asked None v rest) (moved asked None v s)
 on_head asked v rest x before after s same ends = record {
   edits = [];
   gained = same ∙ sym (append-nil before);
@@ -131,7 +142,9 @@ on_head asked v rest x before after s same ends = record {
       inl (record { world = refl; version = i.2; none = append-nil found ∙ i.1; stop = ap (λ (t : List ℕ). head_stop asked (t ++ x)) i.0 ∙ ends });
 }
 
-into_records : (asked : Option ℕ) (v w n : ℕ) (rest x : List ℕ) (before after : List Edit) (s : Stop) → Enters asked w n (rest ++ x) before after s → Feeds x before after (at_rest asked None v rest) (moved asked (Some n) w s)
+into_records : (asked : Option ℕ) (v w n : ℕ) (rest x : List ℕ) (before after : List Edit) (s : Stop)
+    → Enters asked w n (rest ++ x) before after s
+    → Feeds x before after (at_rest asked None v rest) (moved asked (Some n) w s)
 into_records asked v w n rest x before after s e = record {
   edits = e.records.gains.edits;
   gained = e.records.gains.gained;
@@ -140,7 +153,9 @@ into_records asked v w n rest x before after s e = record {
       let i = in_head asked v rest bytes found r in
       let new : List Edit = e.records.gains.edits in
       let tail : List ℕ = e.records.tail in
-      let whole : rest ++ x ≡ text_of w n new ++ tail = e.head ∙ ap (λ (t : List ℕ). head_text w n ++ t) e.records.gains.whole ∙ sym (append_assoc (head_text w n) (flat_map record_text new) tail) in
+      let whole : rest ++ x ≡ text_of w n new ++ tail =
+      e.head ∙ ap (λ (t : List ℕ). head_text w n ++ t) e.records.gains.whole
+      ∙ sym (append_assoc (head_text w n) (flat_map record_text new) tail) in
       inr (record {
         number = n;
         tail = tail;
@@ -155,7 +170,9 @@ into_records asked v w n rest x before after s e = record {
       });
 }
 
-on_records : (asked : Option ℕ) (v m n : ℕ) (rest x : List ℕ) (before after : List Edit) (s : Stop) → n ≡ m → Collects v rest (rest ++ x) before after s → Feeds x before after (at_rest asked (Some m) v rest) (moved asked (Some n) v s)
+on_records : (asked : Option ℕ) (v m n : ℕ) (rest x : List ℕ) (before after : List Edit) (s : Stop) → n ≡ m
+    → Collects v rest (rest ++ x) before after s
+    → Feeds x before after (at_rest asked (Some m) v rest) (moved asked (Some n) v s)
 on_records asked v m n rest x before after s same c = record {
   edits = c.gains.edits;
   gained = c.gains.gained;
@@ -170,7 +187,8 @@ on_records asked v m n rest x before after s same c = record {
             let behind : h.tail ++ x ≡ flat_map record_text new ++ c.tail = ap (λ (t : List ℕ). t ++ x) tail_is ∙ c.gains.whole in
             let named : Some m ≡ Some k = h.world in
             let km : m ≡ k = cc in
-            let texts : text_of v k found ++ (flat_map record_text new ++ c.tail) ≡ text_of v k (found ++ new) ++ c.tail = sym (append_assoc (text_of v k found) (flat_map record_text new) c.tail)
+            let texts : text_of v k found ++ (flat_map record_text new ++ c.tail) ≡ text_of v k (found ++ new) ++ c.tail =
+            sym (append_assoc (text_of v k found) (flat_map record_text new) c.tail)
             ∙ ap (λ (t : List ℕ). t ++ c.tail) (append_assoc (head_text v k) (flat_map record_text found) (flat_map record_text new) ∙ ap (λ (t : List ℕ). head_text v k ++ t) (sym (flat_both found new))) in
             inr (record {
               number = k;
@@ -181,13 +199,17 @@ on_records asked v m n rest x before after s same c = record {
               known = h.known;
               good = records_both found new h.good c.gains.good;
               spelled = spelled_both v found new h.spelled c.gains.spelled;
-              whole = ap (λ (t : List ℕ). t ++ x) h.whole ∙ append_assoc (text_of v k found) h.tail x ∙ ap (λ (t : List ℕ). text_of v k found ++ t) behind ∙ texts;
+              whole =
+                  ap (λ (t : List ℕ). t ++ x) h.whole ∙ append_assoc (text_of v k found) h.tail x
+                  ∙ ap (λ (t : List ℕ). text_of v k found ++ t) behind ∙ texts;
               stop = elim c.ends [ inl m ↦ inl (m.0, behind_length v rest (rest ++ x) c.tail m.1) | inr e ↦ inr e ];
             })
       ];
 }
 
-pub goes_on : (asked world next : Option ℕ) (v w : ℕ) (rest x : List ℕ) (before after : List Edit) (s : Stop) → Advances asked world next v w rest (rest ++ x) before after s → Feeds x before after (at_rest asked world v rest) (moved asked next w s)
+pub goes_on : (asked world next : Option ℕ) (v w : ℕ) (rest x : List ℕ) (before after : List Edit) (s : Stop)
+    → Advances asked world next v w rest (rest ++ x) before after s
+    → Feeds x before after (at_rest asked world v rest) (moved asked next w s)
 goes_on asked None None v w rest x before after s a =
     let P : ℕ → Type 0 = λ k. Feeds x before after (at_rest asked None v rest) (moved asked None k s) in
     subst P (sym a.0) (on_head asked v rest x before after s a.1 a.2)
@@ -198,7 +220,8 @@ goes_on asked (Some m) (Some n) v w rest x before after s a =
     subst P (sym a.0) (on_records asked v m n rest x before after s a.1 a.2)
 
 -- without bytes a reader that waits stays where it is
-pub stands : (asked world : Option ℕ) (v : ℕ) (rest : List ℕ) (before : List Edit) → IsWaiting asked world v rest → Advances asked world world v v rest (rest ++ []) before before (record { rest = rest; fault = None })
+pub stands : (asked world : Option ℕ) (v : ℕ) (rest : List ℕ) (before : List Edit) → IsWaiting asked world v rest
+    → Advances asked world world v v rest (rest ++ []) before before (record { rest = rest; fault = None })
 stands asked None v rest before w = (refl, refl, ap (head_stop asked) (append-nil rest) ∙ w)
 stands asked (Some n) v rest before w =
     (refl, refl, record { tail = rest; gains = subst (λ (t : List ℕ). Gains v before before t rest) (sym (append-nil rest)) (no_gain v before before rest refl); ends = inr w })
@@ -215,7 +238,8 @@ reads_nothing asked = inl (record { world = refl; version = refl; none = refl; s
 pub no_record : (v : ℕ) → record_stop v [] ≡ waits []
 no_record v = is_short v [] (omega arith)
 
-pub ends_well : (asked : Option ℕ) (v n : ℕ) (bytes : List ℕ) (found : List Edit) → Reads bytes found (at_rest asked (Some n) v []) → (x : ℕ) × ((at_rest asked (Some n) v []).world ≡ Some x) × AreRecords found × IsTextOf x found bytes
+pub ends_well : (asked : Option ℕ) (v n : ℕ) (bytes : List ℕ) (found : List Edit) → Reads bytes found (at_rest asked (Some n) v [])
+    → (x : ℕ) × ((at_rest asked (Some n) v []).world ≡ Some x) × AreRecords found × IsTextOf x found bytes
 ends_well asked v n bytes found r = elim r [
   | inl h ↦ let d : Some n ≡ None = h.world in absurd cc
   | inr h ↦
@@ -223,10 +247,13 @@ ends_well asked v n bytes found r = elim r [
       (h.number, h.world, h.good, record { version = v; known = h.known; spelled = h.spelled; text = h.whole ∙ ap (λ (t : List ℕ). text_of v h.number found ++ t) tail_is ∙ append-nil (text_of v h.number found) })
 ]
 
-pub ends_whole : (asked world : Option ℕ) (v : ℕ) (rest : List ℕ) (fault : Option EditFileError) (bytes : List ℕ) (found : List Edit) → fault ≡ None → (world ≡ None → ⊥) → rest ≡ [] → Reads bytes found (record { asked = asked; world = world; version = v; rest = rest; fault = fault })
+pub ends_whole : (asked world : Option ℕ) (v : ℕ) (rest : List ℕ) (fault : Option EditFileError) (bytes : List ℕ) (found : List Edit)
+    → fault ≡ None → (world ≡ None → ⊥) → rest ≡ []
+    → Reads bytes found (record { asked = asked; world = world; version = v; rest = rest; fault = fault })
     → (x : ℕ) × (world ≡ Some x) × AreRecords found × IsTextOf x found bytes
 ends_whole asked None v rest fault bytes found f w r h = absurd (w refl)
 ends_whole asked (Some n) v rest fault bytes found f w r h =
-    let P : Option EditFileError → Type 0 = λ t. Reads bytes found (record { asked = asked; world = Some n; version = v; rest = rest; fault = t }) in
+    let P : Option EditFileError → Type 0 =
+    λ t. Reads bytes found (record { asked = asked; world = Some n; version = v; rest = rest; fault = t }) in
     let Q : List ℕ → Type 0 = λ t. Reads bytes found (at_rest asked (Some n) v t) in
     ends_well asked v n bytes found (subst Q r (subst P f h))

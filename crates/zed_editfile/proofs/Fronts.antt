@@ -26,7 +26,9 @@ calm_or_not (Some (BadEdit c)) = inr (BadEdit c, refl, λ bad. absurd cc)
 calm_or_not (Some CutShort) = inr (CutShort, refl, λ bad. absurd cc)
 
 -- a fault would stay to the end of the text, where there is none
-is_calm : (n : ℕ) (es found : List Edit) (front rest : List ℕ) (p : Progress) → n < 2 ^ 64 → AreRecords es → is_other p.asked n ≡ false → IsTextOf n es (front ++ rest) → Reads front found p → IsCalm p
+is_calm : (n : ℕ) (es found : List Edit) (front rest : List ℕ) (p : Progress) → n < 2 ^ 64 → AreRecords es → is_other p.asked n ≡ false
+    → IsTextOf n es (front ++ rest) → Reads front found p
+    → IsCalm p
 is_calm n es found front rest p lt good other file reads = elim (calm_or_not p.fault) [
   | inl calm ↦ calm
   | inr bad ↦

@@ -23,7 +23,8 @@ four a b c d t = a ∷ b ∷ c ∷ d ∷ t
 four_long : (a b c d : ℕ) (t : List ℕ) → ltb (length (four a b c d t)) 4 ≡ false
 four_long a b c d t = le-ltb _ _ (omega arith)
 
-at_four : (asked : Option ℕ) (a b c d : ℕ) (t : List ℕ) → head_stop asked (four a b c d t) ≡ cond (not (has_letters (four a b c d t))) (fails Magic) (behind_four asked d t (four a b c d t))
+at_four : (asked : Option ℕ) (a b c d : ℕ) (t : List ℕ)
+    → head_stop asked (four a b c d t) ≡ cond (not (has_letters (four a b c d t))) (fails Magic) (behind_four asked d t (four a b c d t))
 unfolding head_stop
 at_four asked a b c d t = rw (four_long a b c d t) refl
 
@@ -58,13 +59,15 @@ not_false : (b : Bool) → not b ≡ false → b ≡ true
 not_false true e = refl
 not_false false e = absurd cc
 
-short_stays : (asked : Option ℕ) (h x : List ℕ) (e : EditFileError) → length h < 4 → head_stop asked h ≡ fails e → head_stop asked (h ++ x) ≡ fails e
+short_stays : (asked : Option ℕ) (h x : List ℕ) (e : EditFileError) → length h < 4 → head_stop asked h ≡ fails e
+    → head_stop asked (h ++ x) ≡ fails e
 short_stays asked h x e lt s = elim (chosen (not (has_letters h)) (fails Magic) (waits h) (fails e) (sym (short_stop asked h lt) ∙ s)) [
   | inl m ↦ lost asked (h ++ x) (letters_lost h x (not_true (has_letters h) m.0)) ∙ m.1
   | inr w ↦ absurd (waits_not_fails h e w.1)
 ]
 
-four_stays : (asked : Option ℕ) (a b c d : ℕ) (t x : List ℕ) (e : EditFileError) → head_stop asked (four a b c d t) ≡ fails e → head_stop asked (four a b c d (t ++ x)) ≡ fails e
+four_stays : (asked : Option ℕ) (a b c d : ℕ) (t x : List ℕ) (e : EditFileError) → head_stop asked (four a b c d t) ≡ fails e
+    → head_stop asked (four a b c d (t ++ x)) ≡ fails e
 four_stays asked a b c d t x e s = elim (chosen (not (has_letters (four a b c d t))) (fails Magic) (behind_four asked d t (four a b c d t)) (fails e) (sym (at_four asked a b c d t) ∙ s)) [
   | inl m ↦ at_four asked a b c d (t ++ x) ∙ rw (m.0) (m.1)
   | inr w ↦
@@ -102,7 +105,8 @@ short_waits asked h rest lt s = elim (chosen (not (has_letters h)) (fails Magic)
   | inr w ↦ (waits_same h rest w.1, omega arith)
 ]
 
-four_waits : (asked : Option ℕ) (a b c d : ℕ) (t rest : List ℕ) → head_stop asked (four a b c d t) ≡ waits rest → (four a b c d t ≡ rest) × (length (four a b c d t) < 12)
+four_waits : (asked : Option ℕ) (a b c d : ℕ) (t rest : List ℕ) → head_stop asked (four a b c d t) ≡ waits rest
+    → (four a b c d t ≡ rest) × (length (four a b c d t) < 12)
 four_waits asked a b c d t rest s = elim (chosen (not (has_letters (four a b c d t))) (fails Magic) (behind_four asked d t (four a b c d t)) (waits rest) (sym (at_four asked a b c d t) ∙ s)) [
   | inl m ↦ absurd (fails_not_waits Magic rest m.1)
   | inr w ↦
@@ -153,7 +157,9 @@ two_true true true false e = absurd cc
 two_true true false r e = absurd cc
 two_true false q r e = absurd cc
 
-four_whole : (asked : Option ℕ) (a b c d : ℕ) (t : List ℕ) → IsBytes t → length (four a b c d t) ≤ 12 → head_stop asked (four a b c d t) ≡ None → IsHead asked (four a b c d t) d (little_number 8 t)
+four_whole : (asked : Option ℕ) (a b c d : ℕ) (t : List ℕ) → IsBytes t → length (four a b c d t) ≤ 12
+    → head_stop asked (four a b c d t) ≡ None
+    → IsHead asked (four a b c d t) d (little_number 8 t)
 unfolding head_text
 four_whole asked a b c d t fits short s = elim (chosen (not (has_letters (four a b c d t))) (fails Magic) (behind_four asked d t (four a b c d t)) None (sym (at_four asked a b c d t) ∙ s)) [
   | inl m ↦ absurd (fails_not_none Magic m.1)
@@ -177,7 +183,9 @@ four_whole asked a b c d t fits short s = elim (chosen (not (has_letters (four a
                         let et : t ≡ number 8 (little_number 8 t) = sym (number_is 8 t fits eight ∙ take_all 8 t (omega arith)) in
                         record {
                           known = known;
-                          text = ap (λ (k : ℕ). four k b c d t) ea ∙ ap (λ (k : ℕ). four 90 k c d t) eb ∙ ap (λ (k : ℕ). four 90 69 k d t) ec ∙ ap (λ (k : List ℕ). four 90 69 68 d k) et;
+                          text =
+                              ap (λ (k : ℕ). four k b c d t) ea ∙ ap (λ (k : ℕ). four 90 k c d t) eb ∙ ap (λ (k : ℕ). four 90 69 k d t) ec
+                              ∙ ap (λ (k : List ℕ). four 90 69 68 d k) et;
                           fits = number_below 8 t fits;
                           asked_for = o.0;
                         }
@@ -186,7 +194,8 @@ four_whole asked a b c d t fits short s = elim (chosen (not (has_letters (four a
       ]
 ]
 
-pub head_whole : (asked : Option ℕ) (h : List ℕ) → IsBytes h → length h ≤ 12 → head_stop asked h ≡ None → IsHead asked h (get_or h 3 0) (little_number 8 (drop 4 h))
+pub head_whole : (asked : Option ℕ) (h : List ℕ) → IsBytes h → length h ≤ 12 → head_stop asked h ≡ None
+    → IsHead asked h (get_or h 3 0) (little_number 8 (drop 4 h))
 head_whole asked [] fits le s = absurd (short_whole asked [] (omega arith) s)
 head_whole asked (a ∷ []) fits le s = absurd (short_whole asked (a ∷ []) (omega arith) s)
 head_whole asked (a ∷ b ∷ []) fits le s = absurd (short_whole asked (a ∷ b ∷ []) (omega arith) s)
@@ -195,20 +204,26 @@ head_whole asked (a ∷ b ∷ c ∷ d ∷ t) fits le s = four_whole asked a b c 
 
 -- ---- as the code goes
 
-pub head_fault : (asked : Option ℕ) (total k l : List ℕ) (e : EditFileError) → k ++ l ≡ total → head_stop asked k ≡ fails e → head_stop asked total ≡ fails e
+pub head_fault : (asked : Option ℕ) (total k l : List ℕ) (e : EditFileError) → k ++ l ≡ total → head_stop asked k ≡ fails e
+    → head_stop asked total ≡ fails e
 head_fault asked total k l e whole s = ap (head_stop asked) (sym whole) ∙ head_stays asked k l e s
 
-pub head_short : (asked : Option ℕ) (total k l : List ℕ) → k ++ l ≡ total → (length k < 12 → l ≡ []) → head_stop asked k ≡ waits k → (k ≡ total) × (head_stop asked k ≡ waits k)
-head_short asked total k l whole none s = (sym (append-nil k) ∙ ap (λ (t : List ℕ). k ++ t) (sym (none (head_waits asked k k s).1)) ∙ whole, s)
+pub head_short : (asked : Option ℕ) (total k l : List ℕ) → k ++ l ≡ total → (length k < 12 → l ≡ []) → head_stop asked k ≡ waits k
+    → (k ≡ total) × (head_stop asked k ≡ waits k)
+head_short asked total k l whole none s =
+    (sym (append-nil k) ∙ ap (λ (t : List ℕ). k ++ t) (sym (none (head_waits asked k k s).1)) ∙ whole, s)
 
-pub head_done : (asked : Option ℕ) (old total k l : List ℕ) (v n : ℕ) → k ++ l ≡ total → IsBytes k → head_stop asked old ≡ waits old → (length old ≤ 12 → length k ≤ 12) → (head_stop asked k ≡ None) × (v ≡ get_or k 3 0) × (n ≡ little_number 8 (drop 4 k)) → (is_other asked n ≡ false) × (n < 2 ^ 64) × (is_version v ≡ true) × (total ≡ head_text v n ++ l)
+pub head_done : (asked : Option ℕ) (old total k l : List ℕ) (v n : ℕ) → k ++ l ≡ total → IsBytes k → head_stop asked old ≡ waits old
+    → (length old ≤ 12 → length k ≤ 12) → (head_stop asked k ≡ None) × (v ≡ get_or k 3 0) × (n ≡ little_number 8 (drop 4 k))
+    → (is_other asked n ≡ false) × (n < 2 ^ 64) × (is_version v ≡ true) × (total ≡ head_text v n ++ l)
 head_done asked old total k l v n whole fits stop size h =
     let lt : length old < 12 = (head_waits asked old old stop).1 in
     let is = head_whole asked k fits (size (omega arith)) h.0 in
     rw (h.1, h.2) (is.asked_for, is.fits, is.known, sym whole ∙ ap (λ (t : List ℕ). t ++ l) is.text)
 
 -- a good head stands at the front
-pub head_front : (asked : Option ℕ) (v n : ℕ) (x : List ℕ) → n < 2 ^ 64 → is_version v ≡ true → is_other asked n ≡ false → head_stop asked (head_text v n ++ x) ≡ None
+pub head_front : (asked : Option ℕ) (v n : ℕ) (x : List ℕ) → n < 2 ^ 64 → is_version v ≡ true → is_other asked n ≡ false
+    → head_stop asked (head_text v n ++ x) ≡ None
 unfolding head_text
 head_front asked v n x lt known other =
     let t : List ℕ = number 8 n ++ x in

@@ -44,7 +44,8 @@ pub length_name : (n : ThingName) → length (name n) ≡ 12
 unfolding name
 length_name n = simp (length-append, length_number) refl
 
-length_optional : {A : Type 0} (spell : A → List ℕ) (n : ℕ) → ((a : A) → length (spell a) ≡ n) → (o : Option A) → length (optional spell o) ≤ 1 + n
+length_optional : {A : Type 0} (spell : A → List ℕ) (n : ℕ) → ((a : A) → length (spell a) ≡ n) → (o : Option A)
+    → length (optional spell o) ≤ 1 + n
 length_optional spell n h None = omega arith
 length_optional spell n h (Some a) = omega (arith, h a)
 
@@ -108,14 +109,16 @@ pub length_stamp : (s : Stamp) → length (stamp s) ≡ 8
 length_stamp s = simp (length-append, length_number) refl
 
 -- one byte for the number of the op, and what follows it
-length_op : AreShort → (op : Op) → is_in_range op ≡ true → has_good_world op ≡ true → IsOp op → (1 ≤ length (op_text op)) × (length (op_text op) ≤ 3310182)
+length_op : AreShort → (op : Op) → is_in_range op ≡ true → has_good_world op ≡ true → IsOp op
+    → (1 ≤ length (op_text op)) × (length (op_text op) ≤ 3310182)
 length_op law (Genesis bytes) h k g = let short = law bytes ((canonical_tested bytes).0 k) in (omega arith, omega arith)
 length_op law (SetHeader setting) h k g = let most = length_header setting h in (omega arith, omega arith)
 length_op law (BoardAdd s) h k g = let most = leb-true (length s) 50 h in (omega arith, omega arith)
 length_op law (BoardRemove b) h k g = let name = length_board b in (omega arith, omega arith)
 length_op law (SetBoard b setting) h k g = (omega arith, simp length-append (omega (arith, length_board b, length_property setting h)))
 length_op law (SetCells b r t) h k g = (omega arith, simp length-append (omega (arith, length_board b)))
-length_op law (StatAdd b f) h k g = (omega arith, omega (arith, length-append (7 ∷ board_name b) (stat_fields f), length_board b, length_fields f g.1))
+length_op law (StatAdd b f) h k g =
+    (omega arith, omega (arith, length-append (7 ∷ board_name b) (stat_fields f), length_board b, length_fields f g.1))
 length_op law (StatRemove s) h k g = let name = length_stat s in (omega arith, omega arith)
 length_op law (SetStat s setting) h k g = (omega arith, simp length-append (omega (arith, length_stat s, length_register setting)))
 length_op law TextAdd h k g = (omega arith, omega arith)
@@ -128,7 +131,8 @@ pub length_record : (e : Edit) → length (record_text e) ≡ 4 + length (spelli
 unfolding record_text
 length_record e = simp (length-append, length_number) refl
 
-pub body_is_short : AreShort → (e : Edit) → is_in_range e.op ≡ true → has_good_world e.op ≡ true → IsOp e.op → is_length (length (spelling e)) ≡ true
+pub body_is_short : AreShort → (e : Edit) → is_in_range e.op ≡ true → has_good_world e.op ≡ true → IsOp e.op
+    → is_length (length (spelling e)) ≡ true
 unfolding spelling
 body_is_short law e h k g =
     let op = length_op law e.op h k g in

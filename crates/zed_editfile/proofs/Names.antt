@@ -45,7 +45,8 @@ name_field : IsField IsName name name_at
 name_field = record { again = name_again; takes = takes_all IsName name name_at name_completes }
 
 -- a name, as that of one kind of things
-kind_field : {A : Type 0} (make : Name → A) (named : A → Name) → ((a : A) → make (named a) ≡ a) → ((n : Name) → named (make n) ≡ n) → IsField (λ a. IsName (named a)) (λ a. name (named a)) (λ bytes. mapped make (name_at bytes))
+kind_field : {A : Type 0} (make : Name → A) (named : A → Name) → ((a : A) → make (named a) ≡ a) → ((n : Name) → named (make n) ≡ n)
+    → IsField (λ a. IsName (named a)) (λ a. name (named a)) (λ bytes. mapped make (name_at bytes))
 kind_field {A} make named back forth = record {
   again = λ a rest g. again_mapped name_field make rest (named a) g ∙ ap (λ (x : A). Ok (x, rest)) (back a);
   takes = takes_all (λ a. IsName (named a)) (λ a. name (named a)) (λ bytes. mapped make (name_at bytes))
@@ -68,7 +69,8 @@ pub element_name_field : IsField IsElementName element_name element_name_at
 unfolding element_name_at
 element_name_field = kind_field element_with (λ a. a.name) (λ a. refl) (λ n. refl)
 
-optional_completes : {A : Type 0} {good : A → Type 0} {spell : A → List ℕ} {read : List ℕ → Field A} → IsField good spell read → Completes (λ o. IfSome o good) (optional spell) (λ t. t) (optional_at read)
+optional_completes : {A : Type 0} {good : A → Type 0} {spell : A → List ℕ} {read : List ℕ → Field A} → IsField good spell read
+    → Completes (λ o. IfSome o good) (optional spell) (λ t. t) (optional_at read)
 unfolding optional_at
 optional_completes {A} {good} {spell} {read} field =
     takes_then boolean_field (λ o. IfSome o good) (optional spell) (λ t. t) (λ tag. cond tag.0 (mapped Some (read tag.1)) (Ok (None, tag.1)))
@@ -77,12 +79,15 @@ optional_completes {A} {good} {spell} {read} field =
     (λ e. takes_mapped field (λ o. IfSome o good) (optional spell) (λ t. boolean tag ++ t) Some (λ a g. g) (λ a t. ap (λ b. boolean b ++ (spell a ++ t)) e))
     (λ e. takes_end (λ o. IfSome o good) (optional spell) (λ t. boolean tag ++ t) None tt (λ t. ap (λ b. boolean b ++ t) e)))
 
-optional_again : {A : Type 0} {good : A → Type 0} {spell : A → List ℕ} {read : List ℕ → Field A} → IsField good spell read → (o : Option A) (rest : List ℕ) → IfSome o good → optional_at read (optional spell o ++ rest) ≡ Ok (o, rest)
+optional_again : {A : Type 0} {good : A → Type 0} {spell : A → List ℕ} {read : List ℕ → Field A} → IsField good spell read
+    → (o : Option A) (rest : List ℕ) → IfSome o good
+    → optional_at read (optional spell o ++ rest) ≡ Ok (o, rest)
 unfolding optional_at boolean_at byte_at
 optional_again field None rest g = refl
 optional_again field (Some x) rest g = again_mapped field Some rest x g
 
-pub optional_field : {A : Type 0} {good : A → Type 0} {spell : A → List ℕ} {read : List ℕ → Field A} → IsField good spell read → IsField (λ o. IfSome o good) (optional spell) (optional_at read)
+pub optional_field : {A : Type 0} {good : A → Type 0} {spell : A → List ℕ} {read : List ℕ → Field A} → IsField good spell read
+    → IsField (λ o. IfSome o good) (optional spell) (optional_at read)
 optional_field {A} {good} {spell} {read} field = record { again = optional_again field; takes = takes_all (λ o. IfSome o good) (optional spell) (optional_at read) (optional_completes field) }
 
 abbrev pub range_text : ByteRange → List ℕ
@@ -116,7 +121,8 @@ third_parameter_completes =
     (λ e. takes_mapped board_name_field IsThirdParameter third_parameter (λ t. boolean tag ++ t) third.Board (λ a g. g) (λ a t. ap (λ b. boolean b ++ (board_name a ++ t)) e))
     (λ e. takes_mapped byte_field IsThirdParameter third_parameter (λ t. boolean tag ++ t) third.Byte (λ a g. g) (λ a t. ap (λ b. boolean b ++ (a ∷ t)) e)))
 
-third_parameter_again : (p : ThirdParameter) (rest : List ℕ) → IsThirdParameter p → third_parameter_at (third_parameter p ++ rest) ≡ Ok (p, rest)
+third_parameter_again : (p : ThirdParameter) (rest : List ℕ) → IsThirdParameter p
+    → third_parameter_at (third_parameter p ++ rest) ≡ Ok (p, rest)
 unfolding third_parameter_at boolean_at byte_at
 third_parameter_again (third.Byte n) rest g = refl
 third_parameter_again (third.Board b) rest g = again_mapped board_name_field third.Board rest b g
@@ -130,11 +136,15 @@ mapped_twice : {A : Type 0} (make : Name → A) (r : Field Name) → mapped Some
 mapped_twice make (Err e) = refl
 mapped_twice make (Ok x) = refl
 
-optional_made : {A : Type 0} (make : Name → A) (tag : Bool × List ℕ) → cond tag.0 (mapped Some (mapped make (name_at tag.1))) (Ok (None, tag.1)) ≡ mapped (option_map make) (cond tag.0 (mapped Some (name_at tag.1)) (Ok (None, tag.1)))
+optional_made : {A : Type 0} (make : Name → A) (tag : Bool × List ℕ)
+    → cond tag.0 (mapped Some (mapped make (name_at tag.1))) (Ok (None, tag.1))
+    ≡ mapped (option_map make) (cond tag.0 (mapped Some (name_at tag.1)) (Ok (None, tag.1)))
 optional_made make (true, t) = mapped_twice make (name_at t)
 optional_made make (false, t) = refl
 
-tagged : {A : Type 0} (make : Name → A) (r : Field Bool) → (r >>= λ tag. cond tag.0 (mapped Some (mapped make (name_at tag.1))) (Ok (None, tag.1))) ≡ mapped (option_map make) (r >>= λ tag. cond tag.0 (mapped Some (name_at tag.1)) (Ok (None, tag.1)))
+tagged : {A : Type 0} (make : Name → A) (r : Field Bool)
+    → (r >>= λ tag. cond tag.0 (mapped Some (mapped make (name_at tag.1))) (Ok (None, tag.1)))
+    ≡ mapped (option_map make) (r >>= λ tag. cond tag.0 (mapped Some (name_at tag.1)) (Ok (None, tag.1)))
 tagged make (Err e) = refl
 tagged make (Ok tag) = optional_made make tag
 

@@ -36,7 +36,9 @@ byte_at-pow (suc k) x = refl
 next_byte : (i b m : ℕ) → b < 256 → byte_at (suc i) (b + 256 * m) ≡ byte_at i m
 next_byte i b m lt =
     let low : (b + 256 * m) / 256 ≡ m = omega arith in
-    let split : (b + 256 * m) / 256 ^ suc i ≡ m / 256 ^ i = ap (λ (p : ℕ). (b + 256 * m) / p) (pow-succ' 256 i) ∙ sym (div-div-eq-div-mul (b + 256 * m) 256 (256 ^ i)) ∙ ap (λ (y : ℕ). y / 256 ^ i) low in
+    let split : (b + 256 * m) / 256 ^ suc i ≡ m / 256 ^ i =
+    ap (λ (p : ℕ). (b + 256 * m) / p) (pow-succ' 256 i) ∙ sym (div-div-eq-div-mul (b + 256 * m) 256 (256 ^ i))
+    ∙ ap (λ (y : ℕ). y / 256 ^ i) low in
     ap (λ (y : ℕ). y % 256) split ∙ sym (byte_at-pow i m)
 
 -- the bytes above the lowest

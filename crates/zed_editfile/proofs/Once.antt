@@ -66,16 +66,23 @@ pub one_record : (e f : Edit) (x y : List ℕ) → IsRecord e → IsRecord f →
 one_record e f x y r q same =
     let a = frame_of e x r in
     let b = frame_of f y q in
-    let len : length (spelling e) ≡ length (spelling f) = sym (frame_number (record_text e ++ x) (spelling e) x a) ∙ ap (little_number 4) same ∙ frame_number (record_text f ++ y) (spelling f) y b in
-    let behind : spelling e ++ x ≡ spelling f ++ y = sym (frame_behind (record_text e ++ x) (spelling e) x a) ∙ ap (drop 4) same ∙ frame_behind (record_text f ++ y) (spelling f) y b in
-    let body : spelling e ≡ spelling f = sym (take_at (spelling e) x (length (spelling e)) refl) ∙ ap (take (length (spelling e))) behind ∙ take_at (spelling f) y (length (spelling e)) (sym len) in
+    let len : length (spelling e) ≡ length (spelling f) =
+    sym (frame_number (record_text e ++ x) (spelling e) x a) ∙ ap (little_number 4) same
+    ∙ frame_number (record_text f ++ y) (spelling f) y b in
+    let behind : spelling e ++ x ≡ spelling f ++ y =
+    sym (frame_behind (record_text e ++ x) (spelling e) x a) ∙ ap (drop 4) same ∙ frame_behind (record_text f ++ y) (spelling f) y b in
+    let body : spelling e ≡ spelling f =
+    sym (take_at (spelling e) x (length (spelling e)) refl) ∙ ap (take (length (spelling e))) behind
+    ∙ take_at (spelling f) y (length (spelling e)) (sym len) in
     let rest : x ≡ y = append_cancel_left (spelling f) x y (ap (λ (t : List ℕ). t ++ x) (sym body) ∙ behind) in
     (ok_is e f (sym (edit_again 2 e r.1 r.0 (of_two e)) ∙ ap (edit_at 2) body ∙ edit_again 2 f q.1 q.0 (of_two f)), rest)
 
 none_is_not : (s : Stop) → None ≡ some_stop s → ⊥
 none_is_not s h = absurd cc
 
-pub one_split : (v : ℕ) (es fs : List Edit) (t u : List ℕ) (p q : Stop) → AreRecords es → AreOf v es → AreRecords fs → AreOf v fs → flat_map record_text es ++ t ≡ flat_map record_text fs ++ u → record_stop v t ≡ some_stop p → record_stop v u ≡ some_stop q → (es ≡ fs) × (t ≡ u)
+pub one_split : (v : ℕ) (es fs : List Edit) (t u : List ℕ) (p q : Stop) → AreRecords es → AreOf v es → AreRecords fs → AreOf v fs
+    → flat_map record_text es ++ t ≡ flat_map record_text fs ++ u → record_stop v t ≡ some_stop p → record_stop v u ≡ some_stop q
+    → (es ≡ fs) × (t ≡ u)
 one_split v [] [] t u p q a k b l same m n = (refl, same)
 one_split v [] (f ∷ fs) t u p q a k b l same m n =
     let whole : t ≡ record_text f ++ (flat_map record_text fs ++ u) = same ∙ append_assoc (record_text f) (flat_map record_text fs) u in
@@ -84,19 +91,22 @@ one_split v (e ∷ es) [] t u p q a k b l same m n =
     let whole : u ≡ record_text e ++ (flat_map record_text es ++ t) = sym same ∙ append_assoc (record_text e) (flat_map record_text es) t in
     absurd (none_is_not q (sym (ap (record_stop v) whole ∙ not_stopped v e (flat_map record_text es ++ t) a.0 k.0) ∙ n))
 one_split v (e ∷ es) (f ∷ fs) t u p q a k b l same m n =
-    let flat : record_text e ++ (flat_map record_text es ++ t) ≡ record_text f ++ (flat_map record_text fs ++ u) = sym (append_assoc (record_text e) (flat_map record_text es) t) ∙ same ∙ append_assoc (record_text f) (flat_map record_text fs) u in
+    let flat : record_text e ++ (flat_map record_text es ++ t) ≡ record_text f ++ (flat_map record_text fs ++ u) =
+    sym (append_assoc (record_text e) (flat_map record_text es) t) ∙ same ∙ append_assoc (record_text f) (flat_map record_text fs) u in
     let first = one_record e f (flat_map record_text es ++ t) (flat_map record_text fs ++ u) a.0 b.0 flat in
     let others = one_split v es fs t u p q a.1 k.1 b.1 l.1 first.1 m n in
     (ap (λ (x : Edit). x ∷ es) first.0 ∙ ap (λ (x : List Edit). f ∷ x) others.0, others.1)
 
 -- edits whose records stand at the front of those of others are the first of these
-pub front_of : (es fs : List Edit) (u : List ℕ) → AreRecords es → AreRecords fs → flat_map record_text es ≡ flat_map record_text fs ++ u → IsFrontOf fs es
+pub front_of : (es fs : List Edit) (u : List ℕ) → AreRecords es → AreRecords fs → flat_map record_text es ≡ flat_map record_text fs ++ u
+    → IsFrontOf fs es
 front_of es [] u a b same = (es, refl)
 front_of [] (f ∷ fs) u a b same =
     let whole : [] ≡ record_text f ++ (flat_map record_text fs ++ u) = same ∙ append_assoc (record_text f) (flat_map record_text fs) u in
     absurd (none_is_not (record { rest = []; fault = None }) (sym (not_stopped 2 f (flat_map record_text fs ++ u) b.0 (of_two f)) ∙ ap (record_stop 2) (sym whole) ∙ no_record 2))
 front_of (e ∷ es) (f ∷ fs) u a b same =
-    let flat : record_text e ++ flat_map record_text es ≡ record_text f ++ (flat_map record_text fs ++ u) = same ∙ append_assoc (record_text f) (flat_map record_text fs) u in
+    let flat : record_text e ++ flat_map record_text es ≡ record_text f ++ (flat_map record_text fs ++ u) =
+    same ∙ append_assoc (record_text f) (flat_map record_text fs) u in
     let first = one_record e f (flat_map record_text es) (flat_map record_text fs ++ u) a.0 b.0 flat in
     let others = front_of es fs u a.1 b.1 first.1 in
     (others.0, ap (λ (x : Edit). x ∷ es) first.0 ∙ ap (λ (x : List Edit). f ∷ x) others.1)
@@ -115,14 +125,17 @@ head_version : (v n : ℕ) (x : List ℕ) → get_or (head_text v n ++ x) 3 0 �
 unfolding head_text
 head_version v n x = refl
 
-pub one_head : (v w m n : ℕ) (x y : List ℕ) → m < 2 ^ 64 → n < 2 ^ 64 → head_text v m ++ x ≡ head_text w n ++ y → (v ≡ w) × (m ≡ n) × (x ≡ y)
+pub one_head : (v w m n : ℕ) (x y : List ℕ) → m < 2 ^ 64 → n < 2 ^ 64 → head_text v m ++ x ≡ head_text w n ++ y
+    → (v ≡ w) × (m ≡ n) × (x ≡ y)
 one_head v w m n x y a b same = (
   sym (head_version v m x) ∙ ap (λ (t : List ℕ). get_or t 3 0) same ∙ head_version w n y,
   sym (head_number v m x a) ∙ ap (λ (t : List ℕ). little_number 8 (drop 4 t)) same ∙ head_number w n y b,
   sym (drop_at (head_text v m) x 12 (length_head v m)) ∙ ap (drop 12) same ∙ drop_at (head_text w n) y 12 (length_head w n),
 )
 
-pub one_file : (m n : ℕ) (es fs : List Edit) → m < 2 ^ 64 → n < 2 ^ 64 → AreRecords es → AreRecords fs → (v w : ℕ) → text_of v m es ≡ text_of w n fs → (v ≡ w) × (m ≡ n) × (es ≡ fs)
+pub one_file : (m n : ℕ) (es fs : List Edit) → m < 2 ^ 64 → n < 2 ^ 64 → AreRecords es → AreRecords fs → (v w : ℕ)
+    → text_of v m es ≡ text_of w n fs
+    → (v ≡ w) × (m ≡ n) × (es ≡ fs)
 one_file m n es fs a b r q v w same =
     let h = one_head v w m n (flat_map record_text es) (flat_map record_text fs) a b same in
     let flat : flat_map record_text es ++ [] ≡ flat_map record_text fs ++ [] = ap (λ (t : List ℕ). t ++ []) h.2 in
@@ -149,11 +162,14 @@ same_progress p q a w v s =
     ap (λ (x : Option ℕ). made x p.world p.version (stop_of p)) a ∙ ap (λ (x : Option ℕ). made q.asked x p.version (stop_of p)) w ∙ ap (λ (x : ℕ). made q.asked q.world x (stop_of p)) v ∙ ap (λ (x : Stop). made q.asked q.world q.version x) s in
     path
 
-head_is_whole : (asked : Option ℕ) (bytes : List ℕ) (found : List Edit) (p : Progress) → p.asked ≡ asked → (h : InRecords bytes found p) → head_stop asked bytes ≡ None
+head_is_whole : (asked : Option ℕ) (bytes : List ℕ) (found : List Edit) (p : Progress) → p.asked ≡ asked → (h : InRecords bytes found p)
+    → head_stop asked bytes ≡ None
 head_is_whole asked bytes found p same h =
     ap (head_stop asked) (h.whole ∙ append_assoc (head_text p.version h.number) (flat_map record_text found) h.tail) ∙ head_front asked p.version h.number (flat_map record_text found ++ h.tail) h.fits h.known (ap (λ (x : Option ℕ). is_other x h.number) (sym same) ∙ h.asked)
 
-pub one_reading : (bytes : List ℕ) (es fs : List Edit) (p q : Progress) → p.asked ≡ q.asked → (p.fault ≡ Some Memory → ⊥) → (q.fault ≡ Some Memory → ⊥) → Reads bytes es p → Reads bytes fs q → (es ≡ fs) × (p ≡ q)
+pub one_reading : (bytes : List ℕ) (es fs : List Edit) (p q : Progress) → p.asked ≡ q.asked → (p.fault ≡ Some Memory → ⊥)
+    → (q.fault ≡ Some Memory → ⊥) → Reads bytes es p → Reads bytes fs q
+    → (es ≡ fs) × (p ≡ q)
 one_reading bytes es fs p q same m n a b = elim a [
   | inl x ↦
       elim b [
@@ -179,7 +195,9 @@ one_reading bytes es fs p q same m n a b = elim a [
 ]
 
 -- the whole text of edits is read so
-pub file_reads : (asked : Option ℕ) (n : ℕ) (es : List Edit) (bytes : List ℕ) → n < 2 ^ 64 → is_other asked n ≡ false → AreRecords es → (file : IsTextOf n es bytes) → Reads bytes es (record { asked = asked; world = Some n; version = file.version; rest = []; fault = None })
+pub file_reads : (asked : Option ℕ) (n : ℕ) (es : List Edit) (bytes : List ℕ) → n < 2 ^ 64 → is_other asked n ≡ false → AreRecords es
+    → (file : IsTextOf n es bytes)
+    → Reads bytes es (record { asked = asked; world = Some n; version = file.version; rest = []; fault = None })
 file_reads asked n es bytes lt other good file =
     inr (record { number = n; tail = []; fits = lt; asked = other; world = refl; known = file.known; good = good; spelled = file.spelled; whole = file.text ∙ sym (append-nil (text_of file.version n es)); stop = inr (no_record file.version) })
 

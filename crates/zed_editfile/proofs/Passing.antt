@@ -13,8 +13,10 @@ use Rattle.zed_editfile.specs.Known.{Lacks, Past}
 use Rattle.zed_editfile.specs.Spelling.{number, integer, record_text, IsOf}
 use Rattle.zed_editfile.proofs.Numbers.{IsBytes, length_number, number_is, number_back}
 
-pub number_there : (n x : ℕ) (bytes : List ℕ) → IsBytes bytes → n ≤ length bytes → little_number n bytes ≡ x → bytes ≡ number n x ++ drop n bytes
-number_there n x bytes h le e = sym (take-append-drop n bytes) ∙ ap (λ (t : List ℕ). t ++ drop n bytes) (sym (number_is n bytes h le) ∙ ap (number n) e)
+pub number_there : (n x : ℕ) (bytes : List ℕ) → IsBytes bytes → n ≤ length bytes → little_number n bytes ≡ x
+    → bytes ≡ number n x ++ drop n bytes
+number_there n x bytes h le e =
+    sym (take-append-drop n bytes) ∙ ap (λ (t : List ℕ). t ++ drop n bytes) (sym (number_is n bytes h le) ∙ ap (number n) e)
 
 pub number_short : (n x : ℕ) (bytes : List ℕ) → length bytes < n → Lacks (number n x) bytes
 number_short n x bytes lt rest e =
@@ -35,7 +37,8 @@ pub past_both : (a b bytes left : List ℕ) (end : Option (Bor (List ℕ))) → 
 past_both a b bytes left None is l = lacks_behind a b bytes left is l
 past_both a b bytes left (Some x) is e = is ∙ ap (λ (t : List ℕ). a ++ t) e ∙ sym (append_assoc a b x.now)
 
-pub three_integers : (ns : List ℤ) → length ns ≡ 3 → flat_map integer ns ≡ integer (get_or ns 0 (pos 0)) ++ (integer (get_or ns 1 (pos 0)) ++ integer (get_or ns 2 (pos 0)))
+pub three_integers : (ns : List ℤ) → length ns ≡ 3
+    → flat_map integer ns ≡ integer (get_or ns 0 (pos 0)) ++ (integer (get_or ns 1 (pos 0)) ++ integer (get_or ns 2 (pos 0)))
 three_integers (a ∷ b ∷ c ∷ []) e = ap (λ (t : List ℕ). integer a ++ (integer b ++ t)) (append-nil (integer c))
 three_integers [] e = absurd cc
 three_integers (a ∷ []) e = absurd (omega arith)
@@ -43,7 +46,8 @@ three_integers (a ∷ b ∷ []) e = absurd (omega arith)
 three_integers (a ∷ b ∷ c ∷ d ∷ ns) e = absurd (omega arith)
 
 -- a record of an edit of the version leaves a reader between records where it is, with one edit more
-pub passes : (asked : Option ℕ) (v n : ℕ) (e : Edit) (before : List Edit) → IsRecord e → IsOf v e → Feeds (record_text e) before (before ++ e ∷ []) (at_rest asked (Some n) v []) (at_rest asked (Some n) v [])
+pub passes : (asked : Option ℕ) (v n : ℕ) (e : Edit) (before : List Edit) → IsRecord e → IsOf v e
+    → Feeds (record_text e) before (before ++ e ∷ []) (at_rest asked (Some n) v []) (at_rest asked (Some n) v [])
 passes asked v n e before good of =
     goes_on asked (Some n) (Some n) v v [] (record_text e) before (before ++ e ∷ []) (record { rest = []; fault = None }) (
       refl,

@@ -43,6 +43,8 @@ none_is_not_memory : None ≡ Some Memory → ⊥
 none_is_not_memory h = cc
 
 -- whoever reads the whole text of edits has these edits
-pub file_has : (n : ℕ) (es : List Edit) (bytes : List ℕ) (file : IsTextOf n es bytes) (fs : List Edit) (p : Progress) → n < 2 ^ 64 → AreRecords es → is_other p.asked n ≡ false → (p.fault ≡ Some Memory → ⊥) → Reads bytes fs p → (fs ≡ es) × (p ≡ record { asked = p.asked; world = Some n; version = file.version; rest = []; fault = None })
+pub file_has : (n : ℕ) (es : List Edit) (bytes : List ℕ) (file : IsTextOf n es bytes) (fs : List Edit) (p : Progress) → n < 2 ^ 64
+    → AreRecords es → is_other p.asked n ≡ false → (p.fault ≡ Some Memory → ⊥) → Reads bytes fs p
+    → (fs ≡ es) × (p ≡ record { asked = p.asked; world = Some n; version = file.version; rest = []; fault = None })
 file_has n es bytes file fs p lt good other whole reads =
     one_reading bytes fs es p (record { asked = p.asked; world = Some n; version = file.version; rest = []; fault = None }) refl whole none_is_not_memory reads (file_reads p.asked n es bytes lt other good file)

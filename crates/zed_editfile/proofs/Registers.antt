@@ -94,9 +94,12 @@ flag_named (suc (suc (suc (suc (suc (suc (suc (suc (suc (suc (suc (suc (suc zero
 flag_named (suc (suc (suc (suc (suc (suc (suc (suc (suc (suc (suc (suc (suc (suc zero)))))))))))))) le lt = absurd (omega arith)
 flag_named (suc (suc (suc (suc (suc (suc (suc (suc (suc (suc (suc (suc (suc (suc (suc zero))))))))))))))) le lt = absurd (omega arith)
 flag_named (suc (suc (suc (suc (suc (suc (suc (suc (suc (suc (suc (suc (suc (suc (suc (suc zero)))))))))))))))) le lt = absurd (omega arith)
-flag_named (suc (suc (suc (suc (suc (suc (suc (suc (suc (suc (suc (suc (suc (suc (suc (suc (suc zero))))))))))))))))) le lt = absurd (omega arith)
-flag_named (suc (suc (suc (suc (suc (suc (suc (suc (suc (suc (suc (suc (suc (suc (suc (suc (suc (suc zero)))))))))))))))))) le lt = absurd (omega arith)
-flag_named (suc (suc (suc (suc (suc (suc (suc (suc (suc (suc (suc (suc (suc (suc (suc (suc (suc (suc (suc zero))))))))))))))))))) le lt = refl
+flag_named (suc (suc (suc (suc (suc (suc (suc (suc (suc (suc (suc (suc (suc (suc (suc (suc (suc zero))))))))))))))))) le lt =
+    absurd (omega arith)
+flag_named (suc (suc (suc (suc (suc (suc (suc (suc (suc (suc (suc (suc (suc (suc (suc (suc (suc (suc zero)))))))))))))))))) le lt =
+    absurd (omega arith)
+flag_named (suc (suc (suc (suc (suc (suc (suc (suc (suc (suc (suc (suc (suc (suc (suc (suc (suc (suc (suc zero))))))))))))))))))) le lt =
+    refl
 flag_named (suc (suc (suc (suc (suc (suc (suc (suc (suc (suc (suc (suc (suc (suc (suc (suc (suc (suc (suc (suc zero)))))))))))))))))))) le lt = refl
 flag_named (suc (suc (suc (suc (suc (suc (suc (suc (suc (suc (suc (suc (suc (suc (suc (suc (suc (suc (suc (suc (suc zero))))))))))))))))))))) le lt = refl
 flag_named (suc (suc (suc (suc (suc (suc (suc (suc (suc (suc (suc (suc (suc (suc (suc (suc (suc (suc (suc (suc (suc (suc zero)))))))))))))))))))))) le lt = refl
@@ -267,7 +270,8 @@ board_again v (board.Rank n) rest g =
     rw t (again_mapped (number_field 2) board.Rank rest n g.0)
 
 pub board_setting_field : (v : ℕ) → IsField (IsPropertyIn v) board_setting (board_setting_at v)
-board_setting_field v = record { again = board_again v; takes = takes_all (IsPropertyIn v) board_setting (board_setting_at v) (board_completes v) }
+board_setting_field v =
+    record { again = board_again v; takes = takes_all (IsPropertyIn v) board_setting (board_setting_at v) (board_completes v) }
 
 stat_again : (s : StatSetting) (rest : List ℕ) → IsStatSetting s → stat_setting_at (stat_setting s ++ rest) ≡ Ok (s, rest)
 unfolding stat_setting_at stat_value_at byte_at
@@ -298,10 +302,12 @@ behind_fields x y a b c p q r u o t = x ∷ y ∷ (integer a ++ (integer b ++ (i
 abbrev made : ℕ → ℕ → ℤ → ℤ → ℤ → ℕ → ℕ → ThirdParameter → Tile → Option TextId → StatFields
 made x y a b c p q r u o = fields_of (x ∷ y ∷ p ∷ q ∷ []) u (a ∷ b ∷ c ∷ []) r o
 
-regroup : (a b c d e f g h t : List ℕ) → (((((a ++ (b ++ (c ++ (d ++ [])))) ++ e) ++ f) ++ g) ++ h) ++ t ≡ a ++ (b ++ (c ++ (d ++ (e ++ (f ++ (g ++ (h ++ t)))))))
+regroup : (a b c d e f g h t : List ℕ)
+    → (((((a ++ (b ++ (c ++ (d ++ [])))) ++ e) ++ f) ++ g) ++ h) ++ t ≡ a ++ (b ++ (c ++ (d ++ (e ++ (f ++ (g ++ (h ++ t)))))))
 regroup a b c d e f g h t = simp (append_assoc, append-nil) refl
 
-fields_are : (x y : ℕ) (a b c : ℤ) (p q : ℕ) (r : ThirdParameter) (u : Tile) (o : Option TextId) (t : List ℕ) → stat_fields (made x y a b c p q r u o) ++ t ≡ behind_fields x y a b c p q r u o t
+fields_are : (x y : ℕ) (a b c : ℤ) (p q : ℕ) (r : ThirdParameter) (u : Tile) (o : Option TextId) (t : List ℕ)
+    → stat_fields (made x y a b c p q r u o) ++ t ≡ behind_fields x y a b c p q r u o t
 fields_are x y a b c p q r u o t = regroup (x ∷ y ∷ []) (integer a) (integer b) (integer c) (p ∷ q ∷ []) (third_parameter r) (u.element ∷ u.colour ∷ []) (optional text_name o) t
 
 fields_complete : Completes IsStatFields stat_fields (λ t. t) stat_fields_at
@@ -349,7 +355,9 @@ three ns h =
     let none : c.1 ≡ [] = empty c.1 c.3 in
     (a.0, b.0, c.0, cc (a.2, b.2, c.2, none))
 
-made_again : (x y : ℕ) (a b c : ℤ) (p q : ℕ) (r : ThirdParameter) (u : Tile) (o : Option TextId) (rest : List ℕ) → IsStatFields (made x y a b c p q r u o) → stat_fields_at (stat_fields (made x y a b c p q r u o) ++ rest) ≡ Ok (made x y a b c p q r u o, rest)
+made_again : (x y : ℕ) (a b c : ℤ) (p q : ℕ) (r : ThirdParameter) (u : Tile) (o : Option TextId) (rest : List ℕ)
+    → IsStatFields (made x y a b c p q r u o)
+    → stat_fields_at (stat_fields (made x y a b c p q r u o) ++ rest) ≡ Ok (made x y a b c p q r u o, rest)
 unfolding stat_fields_at
 made_again x y a b c p q r u o rest g =
     let f : Field StatFields = Ok (made x y a b c p q r u o, rest) in
@@ -363,7 +371,8 @@ made_again x y a b c p q r u o rest g =
 abbrev whole : List ℕ → List ℤ → ThirdParameter → Option TextId → StatFields
 whole bytes numbers p3 text = record { bytes = bytes; numbers = numbers; p3 = p3; text = text }
 
-same_whole : (bs cs : List ℕ) (ns ms : List ℤ) (r : ThirdParameter) (o : Option TextId) → bs ≡ cs → ns ≡ ms → whole cs ms r o ≡ whole bs ns r o
+same_whole : (bs cs : List ℕ) (ns ms : List ℤ) (r : ThirdParameter) (o : Option TextId) → bs ≡ cs → ns ≡ ms
+    → whole cs ms r o ≡ whole bs ns r o
 same_whole bs cs ns ms r o e h = rw (e, h) refl
 
 fields_again : (f : StatFields) (rest : List ℕ) → IsStatFields f → stat_fields_at (stat_fields f ++ rest) ≡ Ok (f, rest)

@@ -25,26 +25,32 @@ use Rattle.zed_editfile.proofs.Codec.{chosen}
 
 -- ---- what is made of a string has it
 
-such_mapped : {A B : Type 0} (f : A → B) (has : B → Bool) (read : Field A) → reads_such (λ a. has (f a)) read ≡ true → reads_such has (mapped f read) ≡ true
+such_mapped : {A B : Type 0} (f : A → B) (has : B → Bool) (read : Field A) → reads_such (λ a. has (f a)) read ≡ true
+    → reads_such has (mapped f read) ≡ true
 such_mapped f has (Ok x) h = h
 such_mapped f has (Err e) h = absurd cc
 
-pub world_name_has : (bytes : List ℕ) → reads_such has_bytes (string_at bytes) ≡ true → reads_such header_has_string (mapped header.WorldName (string_at bytes)) ≡ true
+pub world_name_has : (bytes : List ℕ) → reads_such has_bytes (string_at bytes) ≡ true
+    → reads_such header_has_string (mapped header.WorldName (string_at bytes)) ≡ true
 world_name_has bytes h = such_mapped header.WorldName header_has_string (string_at bytes) h
 
-pub flag_has : (slot : FlagSlot) (bytes : List ℕ) → reads_such has_bytes (string_at bytes) ≡ true → reads_such header_has_string (mapped (header.Flag slot) (string_at bytes)) ≡ true
+pub flag_has : (slot : FlagSlot) (bytes : List ℕ) → reads_such has_bytes (string_at bytes) ≡ true
+    → reads_such header_has_string (mapped (header.Flag slot) (string_at bytes)) ≡ true
 flag_has slot bytes h = such_mapped (header.Flag slot) header_has_string (string_at bytes) h
 
-pub board_text_has : (text : BoardText) (bytes : List ℕ) → reads_such has_bytes (string_at bytes) ≡ true → reads_such board_has_string (mapped (board.Text text) (string_at bytes)) ≡ true
+pub board_text_has : (text : BoardText) (bytes : List ℕ) → reads_such has_bytes (string_at bytes) ≡ true
+    → reads_such board_has_string (mapped (board.Text text) (string_at bytes)) ≡ true
 board_text_has text bytes h = such_mapped (board.Text text) board_has_string (string_at bytes) h
 
-pub set_header_has : (read : Field HeaderSetting) → reads_such header_has_string read ≡ true → reads_such has_string (mapped SetHeader read) ≡ true
+pub set_header_has : (read : Field HeaderSetting) → reads_such header_has_string read ≡ true
+    → reads_such has_string (mapped SetHeader read) ≡ true
 set_header_has read h = such_mapped SetHeader has_string read h
 
 pub board_add_has : (read : Field (List ℕ)) → reads_such has_bytes read ≡ true → reads_such has_string (mapped BoardAdd read) ≡ true
 board_add_has read h = such_mapped BoardAdd has_string read h
 
-pub set_board_has : (b : BoardId) (read : Field BoardSetting) → reads_such board_has_string read ≡ true → reads_such has_string (read >>= λ x. Ok (SetBoard b x.0, x.1)) ≡ true
+pub set_board_has : (b : BoardId) (read : Field BoardSetting) → reads_such board_has_string read ≡ true
+    → reads_such has_string (read >>= λ x. Ok (SetBoard b x.0, x.1)) ≡ true
 set_board_has b (Ok x) h = h
 set_board_has b (Err e) h = absurd cc
 
@@ -67,7 +73,8 @@ genesis_has (TextDelete t range) is begins = absurd cc
 abbrev ended : Stamp → Op × List ℕ → Result Edit EditFileError
 ended made op = cond (eqb (length op.1) 0) (Ok (record { stamp = made; op = op.0 })) (Err (BadEdit Long))
 
-op_ended : (made : Stamp) (read : Field Op) (e : Edit) → (read >>= ended made) ≡ Ok e → has_string e.op ≡ true → reads_such has_string read ≡ true
+op_ended : (made : Stamp) (read : Field Op) (e : Edit) → (read >>= ended made) ≡ Ok e → has_string e.op ≡ true
+    → reads_such has_string read ≡ true
 op_ended made (Ok op) e h has =
     let c = chosen (eqb (length op.1) 0) (Ok (record { stamp = made; op = op.0 })) (Err (BadEdit Long)) (Ok e) h in
     elim c [

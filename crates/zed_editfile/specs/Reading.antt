@@ -232,7 +232,8 @@ stat_setting_at bytes = register_at stat_value_at bytes
 
 -- what a new stat is given, from its bytes but the tile underneath, that tile, its numbers, and the rest
 abbrev pub fields_of : List ℕ → Tile → List ℤ → ThirdParameter → Option TextId → StatFields
-fields_of bytes under numbers p3 text = record { bytes = bytes ++ under.element ∷ under.colour ∷ []; numbers = numbers; p3 = p3; text = text }
+fields_of bytes under numbers p3 text =
+    record { bytes = bytes ++ under.element ∷ under.colour ∷ []; numbers = numbers; p3 = p3; text = text }
 
 -- what a new stat is given
 unfoldable pub stat_fields_at : List ℕ → Field StatFields

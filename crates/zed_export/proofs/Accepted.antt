@@ -37,18 +37,22 @@ told_same (Ok true) P p h = refl
 told_same (Ok false) P p h = absurd (let bad = h.1 p in cc)
 told_same (Err e) P p h = absurd h
 
-pub same_answer : EditsDecide → (d o : Replica) (r : Result Bool DocumentError) → HaveAcceptedTheSame d o → d.edits ≡ o.edits → AnswersSame d o r → r ≡ Ok true
+pub same_answer : EditsDecide → (d o : Replica) (r : Result Bool DocumentError) → HaveAcceptedTheSame d o → d.edits ≡ o.edits
+    → AnswersSame d o r
+    → r ≡ Ok true
 same_answer decide d o r h is answer = told_same r (AreSame d o) (decide d o h.world is) (rw (h.sound, h.other_sound) at answer)
 
 -- answers that want of memory alone keeps from one value are alike
-pub alike : {X Y : Type 0} (view : X → Y) (y : Result Y ExportError) (a b : Result X ExportError) → Answers view y a → Answers view y b → AreAlike view a b
+pub alike : {X Y : Type 0} (view : X → Y) (y : Result Y ExportError) (a b : Result X ExportError) → Answers view y a → Answers view y b
+    → AreAlike view a b
 alike view (Ok y) (Ok x) (Ok z) h k = inr (inr (h ∙ sym k))
 alike view (Ok y) (Ok x) (Err e) h k = inr (inl (ap (λ f. Err f) k))
 alike view (Ok y) (Err e) b h k = inl (ap (λ f. Err f) h)
 alike {X} view (Err e) (Ok x) b h k = absurd (let ok : Result X ExportError = Ok x in let bad : ok ≡ Err e = h in cc)
 alike view (Err e) (Err f) b h k = inr (inr (k ∙ sym h))
 
-given : {Y : Type 0} (d : Replica) (gives : Plain → Result Y ExportError) → d.is_stale ≡ false → unless_stale d gives ≡ gives (replay d.edits)
+given : {Y : Type 0} (d : Replica) (gives : Plain → Result Y ExportError) → d.is_stale ≡ false
+    → unless_stale d gives ≡ gives (replay d.edits)
 given d gives sound = rw sound refl
 
 -- a document that isn't stale answers what its edits come to
@@ -57,18 +61,22 @@ pub answers_by : {X Y : Type 0} (view : X → Y) (gives : Plain → Result Y Exp
 answers_by view gives d es a sound is h = subst (λ y. Answers view y a) (given d gives sound ∙ ap (λ fs. gives (replay fs)) is) h
 
 -- the exported world is that of the edits
-pub exported_is : (d : Replica) (limit : ℕ) (w : Result Contents ExportError) → d.is_stale ≡ false → Answers (λ x. x) (unless_stale d (exported limit)) w
+pub exported_is : (d : Replica) (limit : ℕ) (w : Result Contents ExportError) → d.is_stale ≡ false
+    → Answers (λ x. x) (unless_stale d (exported limit)) w
     → IfOk w (λ x. x ≡ world_of (replay d.edits))
-exported_is d limit w sound h = go (refusal_of limit (replay d.edits)) w (subst (λ y. Answers (λ x. x) y w) (given d (exported limit) sound) h)
+exported_is d limit w sound h =
+    go (refusal_of limit (replay d.edits)) w (subst (λ y. Answers (λ x. x) y w) (given d (exported limit) sound) h)
   where
-    go : (o : Option ExportError) (v : Result Contents ExportError) → Answers (λ x. x) (unless_over o (world_of (replay d.edits))) v → IfOk v (λ x. x ≡ world_of (replay d.edits))
+    go : (o : Option ExportError) (v : Result Contents ExportError) → Answers (λ x. x) (unless_over o (world_of (replay d.edits))) v
+        → IfOk v (λ x. x ≡ world_of (replay d.edits))
     go None (Ok x) k = k
     go None (Err e) k = tt
     go (Some e) (Ok x) k = absurd (let ok : Result Contents ExportError = Ok x in let bad : ok ≡ Err e = k in cc)
     go (Some e) (Err f) k = tt
 
 -- so the saved file reads back as it
-pub read_back : (d : Replica) (limit : ℕ) (w : Result Contents ExportError) (file : Result (Vec ℕ) ExportError) → d.is_stale ≡ false → Answers (λ x. x) (unless_stale d (exported limit)) w
+pub read_back : (d : Replica) (limit : ℕ) (w : Result Contents ExportError) (file : Result (Vec ℕ) ExportError) → d.is_stale ≡ false
+    → Answers (λ x. x) (unless_stale d (exported limit)) w
     → IfOk file (λ f. world_at f.items ≡ Ok (world_of (replay d.edits))) → IfOk file (λ f. IfOk w (λ x. world_at f.items ≡ Ok x))
 read_back d limit w (Err e) sound h back = tt
 read_back d limit w (Ok f) sound h back = go w (exported_is d limit w sound h)
@@ -78,9 +86,12 @@ read_back d limit w (Ok f) sound h back = go w (exported_is d limit w sound h)
     go (Ok x) k = back ∙ ap (λ y. Ok y) (sym k)
 
 -- what a document shows is its one author's
-pub shows_one_authors : RisingIsItsEdits → (d : Replica) (es : List Edit) (v : Result Plain DocumentError) → IsRising es → d.edits ≡ es → d.is_stale ≡ false
-    → ((v ≡ Err document.Stale) ↔ (d.is_stale ≡ true)) → IfErr v (λ e. e ≡ document.Stale) → IfOk v (λ p. p ≡ replay d.edits) → IsOkAnd v (IsOneAuthors es)
-shows_one_authors known d es (Ok p) r is sound stale only shows = λ made rising has. shows ∙ one_authors known es d.edits r is made rising has
+pub shows_one_authors : RisingIsItsEdits → (d : Replica) (es : List Edit) (v : Result Plain DocumentError) → IsRising es → d.edits ≡ es
+    → d.is_stale ≡ false
+    → ((v ≡ Err document.Stale) ↔ (d.is_stale ≡ true)) → IfErr v (λ e. e ≡ document.Stale) → IfOk v (λ p. p ≡ replay d.edits)
+    → IsOkAnd v (IsOneAuthors es)
+shows_one_authors known d es (Ok p) r is sound stale only shows =
+    λ made rising has. shows ∙ one_authors known es d.edits r is made rising has
 shows_one_authors known d es (Err e) r is sound stale only shows =
     let is_stale = stale.0 (ap (λ x. Err x) only) in absurd (let bad : false ≡ true = sym sound ∙ is_stale in cc)
 
@@ -103,8 +114,10 @@ pub associates : UnionKeepsRising → UnionAgrees → UnionHasBoth → UnionAsso
 associates rises agrees members assoc a b c ab bc first last f g h k =
     let joined : List Edit = union b.edits c.edits in
     let both : HaveTheSame joined (b.edits ++ c.edits) = members b.edits c.edits (agrees b.edits c.edits h.rising h.other_rising h.agree) in
-    let with_first : Agrees (a.edits ++ joined) = agrees a.edits joined f.rising (rises b.edits c.edits h.rising) (subst (Agree a.edits) h.edits k.agree) in
-    let in_joined : (e : Edit) → Contains (a.edits ++ (b.edits ++ c.edits)) e → Contains (a.edits ++ joined) e = λ e m. elim (Contains-append_cases a.edits (b.edits ++ c.edits) e m) [
+    let with_first : Agrees (a.edits ++ joined) =
+    agrees a.edits joined f.rising (rises b.edits c.edits h.rising) (subst (Agree a.edits) h.edits k.agree) in
+    let in_joined : (e : Edit) → Contains (a.edits ++ (b.edits ++ c.edits)) e → Contains (a.edits ++ joined) e =
+    λ e m. elim (Contains-append_cases a.edits (b.edits ++ c.edits) e m) [
       | inl n ↦ Contains-append_left a.edits joined e n
       | inr n ↦ Contains-append_right a.edits joined e ((both e).1 n)
     ] in
@@ -121,8 +134,10 @@ associates rises agrees members assoc a b c ab bc first last f g h k =
 
 pub repeats : UnionAgrees → UnionHasBoth → UnionOfItsOwn → MergingRepeats
 repeats agrees members own d o one again a b =
-    let both : HaveTheSame (union d.edits o.edits) (d.edits ++ o.edits) = members d.edits o.edits (agrees d.edits o.edits a.rising a.other_rising a.agree) in
-    let there : (e : Edit) → Contains o.edits e → Contains one.edits e = λ e m. subst (λ es. Contains es e) (sym a.edits) ((both e).1 (Contains-append_right d.edits o.edits e m)) in
+    let both : HaveTheSame (union d.edits o.edits) (d.edits ++ o.edits) =
+    members d.edits o.edits (agrees d.edits o.edits a.rising a.other_rising a.agree) in
+    let there : (e : Edit) → Contains o.edits e → Contains one.edits e =
+    λ e m. subst (λ es. Contains es e) (sym a.edits) ((both e).1 (Contains-append_right d.edits o.edits e m)) in
     record {
       world = b.world;
       sound = b.sound;

@@ -21,11 +21,13 @@ use Rattle.zed_export.proofs.Names.{position_mapped}
 use Rattle.zed_export.proofs.Searching.{found_within}
 
 -- a name that no board has has no number
-pub none_there : (p : Plain) → IsOrdered p → (name : Name) → place_among (map (λ b. b.id.name) (boards_there p)) name ≡ None → place_among (board_names p) name ≡ None
+pub none_there : (p : Plain) → IsOrdered p → (name : Name) → place_among (map (λ b. b.id.name) (boards_there p)) name ≡ None
+    → place_among (board_names p) name ≡ None
 none_there p h name e =
     let id : BoardId = record { name = name } in
     let bs = boards_there p in
-    let missing : None ≡ position (λ b. same_board b.id id) bs = sym e ∙ position_mapped (λ (b : Board). b.id.name) (λ x. same_name x name) bs in
+    let missing : None ≡ position (λ b. same_board b.id id) bs =
+    sym e ∙ position_mapped (λ (b : Board). b.id.name) (λ x. same_name x name) bs in
     let none : find (λ b. same_board b.id id) bs ≡ None = found_there_none (λ b. same_board b.id id) bs missing in
     position_mapped (λ (b : Board). b.id.name) (λ x. same_name x name) (by_number bs)
     ∙ sym (places-so bs (boards_there_are_apart p h) id)
@@ -48,7 +50,9 @@ named names name k e =
     each (x ∷ xs) = (refl, each xs)
 
 -- the number beside a name is its number
-pub beside : (by_number names : List Name) (numbers : List (Option ℕ)) → AreBeside by_number names numbers → (name : Name) (k : ℕ) (d : Option ℕ) → place_among names name ≡ Some k → get_or numbers k d ≡ place_among by_number name
+pub beside : (by_number names : List Name) (numbers : List (Option ℕ)) → AreBeside by_number names numbers
+    → (name : Name) (k : ℕ) (d : Option ℕ) → place_among names name ≡ Some k
+    → get_or numbers k d ≡ place_among by_number name
 beside by_number names numbers h name k d e =
     let within : k < length names = subst (λ o. IfSome o (λ n. n < length names)) e (found_within (λ x. same_name x name) names) in
     ap (λ (ns : List (Option ℕ)). get_or ns k d) h.each

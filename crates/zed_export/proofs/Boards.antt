@@ -13,22 +13,28 @@ use Rattle.zed_export.specs.World.{exported_above}
 use Rattle.zed_export.specs.Limits.{told, board_refusal}
 
 -- each stat that isn't removed is exported
-pub length_above : (p : Plain) (b : Board) (lower : List (Option TextId)) (ss : List Stat) → length (exported_above p b lower ss) ≡ length ss
+pub length_above : (p : Plain) (b : Board) (lower : List (Option TextId)) (ss : List Stat)
+    → length (exported_above p b lower ss) ≡ length ss
 length_above p b lower [] = refl
 length_above p b lower (s ∷ ss) = ap suc (length_above p b (lower ++ s.fields.text ∷ []) ss)
 
-pub stats_over : (limit n stats : ℕ) (b : BoardData) → stats ≡ length b.stats - 1 → 150 < stats → Some (StatsOver n stats) ≡ board_refusal limit n b
+pub stats_over : (limit n stats : ℕ) (b : BoardData) → stats ≡ length b.stats - 1 → 150 < stats
+    → Some (StatsOver n stats) ≡ board_refusal limit n b
 stats_over limit n stats b e lt =
     let h : ltb 150 (length b.stats - 1) ≡ true = lt-ltb _ _ (omega arith) in
     rw (h, e) refl
 
-pub body_over : (limit n bytes : ℕ) (b : BoardData) → length b.stats - 1 ≤ 150 → limit ≤ READ_BODY_LIMIT → bytes ≡ told (length (body_text b)) → limit < bytes → Some (BoardOver n bytes) ≡ board_refusal limit n b
+pub body_over : (limit n bytes : ℕ) (b : BoardData) → length b.stats - 1 ≤ 150 → limit ≤ READ_BODY_LIMIT
+    → bytes ≡ told (length (body_text b)) → limit < bytes
+    → Some (BoardOver n bytes) ≡ board_refusal limit n b
 body_over limit n bytes b few low e lt =
     let h : ltb 150 (length b.stats - 1) ≡ false = le-ltb _ _ few in
     let k : ltb limit (length (body_text b)) ≡ true = lt-ltb _ _ (omega arith) in
     rw (h, k, e) refl
 
-pub not_over : (limit n bytes : ℕ) (b : BoardData) → length b.stats - 1 ≤ 150 → limit ≤ READ_BODY_LIMIT → bytes ≡ told (length (body_text b)) → bytes ≤ limit → None ≡ board_refusal limit n b
+pub not_over : (limit n bytes : ℕ) (b : BoardData) → length b.stats - 1 ≤ 150 → limit ≤ READ_BODY_LIMIT
+    → bytes ≡ told (length (body_text b)) → bytes ≤ limit
+    → None ≡ board_refusal limit n b
 not_over limit n bytes b few low e le =
     let h : ltb 150 (length b.stats - 1) ≡ false = le-ltb _ _ few in
     let k : ltb limit (length (body_text b)) ≡ false = le-ltb _ _ (omega arith) in

@@ -27,7 +27,8 @@ number_fits [] i h = search rules
 number_fits (z ∷ zs) zero h = h.0
 number_fits (z ∷ zs) (suc i) h = number_fits zs i h.1
 
-stats_fit : (p : Plain) (b : Board) (lower : List (Option TextId)) (ss : List Stat) → AllByRecursion StatHasIntegers ss → AllByRecursion FitsStat (exported_above p b lower ss)
+stats_fit : (p : Plain) (b : Board) (lower : List (Option TextId)) (ss : List Stat) → AllByRecursion StatHasIntegers ss
+    → AllByRecursion FitsStat (exported_above p b lower ss)
 stats_fit p b lower [] h = tt
 stats_fit p b lower (s ∷ ss) h =
     let number : (i : ℕ) → IsInteger (get_or s.fields.numbers i (pos 0)) = λ i. number_fits s.fields.numbers i h.0.numbers in
@@ -39,7 +40,9 @@ boards_fit p (b ∷ bs) h =
     let live = each_filtered StatHasIntegers (λ s. not s.removed) b.stats h.0.stats in
     (record { time_limit = h.0.time_limit; stats = stats_fit p b [] (filter (λ s. not s.removed) b.stats) live }, boards_fit p bs h.1)
 
-pub integers_normal : (limit : ℕ) (p : Plain) → IsRegular p → IsOrdered p → HasIntegers p → limit ≤ READ_BODY_LIMIT → refusal_of limit p ≡ None → HasNormalParts (world_of p)
+pub integers_normal : (limit : ℕ) (p : Plain) → IsRegular p → IsOrdered p → HasIntegers p → limit ≤ READ_BODY_LIMIT
+    → refusal_of limit p ≡ None
+    → HasNormalParts (world_of p)
 integers_normal limit p regular ordered integers low within =
     let number : (i : ℕ) → IsInteger (get_or p.header.numbers i (pos 0)) = λ i. number_fits p.header.numbers i integers.header in
     world_normal limit p regular ordered low within

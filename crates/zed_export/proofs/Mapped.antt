@@ -19,9 +19,12 @@ each_image P f [] h = tt
 each_image P f (x ∷ xs) h = (h.0, each_image P f xs h.1)
 
 -- the boards of the places by number are those of the world
-pub exported_at : (p : Plain) (places : List ℕ) → AreByNumber p places → map (λ i. exported_board p (board_at p i)) places ≡ exported_boards p
+pub exported_at : (p : Plain) (places : List ℕ) → AreByNumber p places
+    → map (λ i. exported_board p (board_at p i)) places ≡ exported_boards p
 exported_at p places h = map_twice (board_at p) (exported_board p) places ∙ ap (map (exported_board p)) h.boards
 
 -- and what holds of each that has a number holds of each of these places
-pub each_at : (P : Board → Type 0) (p : Plain) (places : List ℕ) → AreByNumber p places → AllByRecursion P (alive_boards p) → All (λ i. P (board_at p i)) places
-each_at P p places h each = All-from_recursion (λ i. P (board_at p i)) places (each_image P (board_at p) places (subst (AllByRecursion P) (sym h.boards) each))
+pub each_at : (P : Board → Type 0) (p : Plain) (places : List ℕ) → AreByNumber p places → AllByRecursion P (alive_boards p)
+    → All (λ i. P (board_at p i)) places
+each_at P p places h each =
+    All-from_recursion (λ i. P (board_at p i)) places (each_image P (board_at p) places (subst (AllByRecursion P) (sym h.boards) each))

@@ -44,13 +44,15 @@ equal-same a b h = grind (arith, nat_tests)
 
 module _ {X : Type 0} (name : X → Name) where
   -- of two members the one before has the earlier name
-  rises_far : (xs : List X) (i j : ℕ) (d : X) → NamesRise name xs → i < j → j < length xs → name_cmp (name (get_or xs i d)) (name (get_or xs j d)) ≡ Less
+  rises_far : (xs : List X) (i j : ℕ) (d : X) → NamesRise name xs → i < j → j < length xs
+      → name_cmp (name (get_or xs i d)) (name (get_or xs j d)) ≡ Less
   rises_far [] i j d h lt within = absurd (omega arith)
   rises_far (x ∷ xs) i zero d h lt within = absurd (omega arith)
   rises_far (x ∷ xs) (suc i) (suc j) d h lt within = rises_far xs i j d h.1 (omega arith) (omega arith)
   rises_far (x ∷ xs) zero (suc j) d h lt within = earlier-less (name x) (name (get_or xs j d)) (among xs j h.0 (omega arith))
     where
-      among : (ys : List X) (k : ℕ) → AllByRecursion (λ y. is_earlier (name x) (name y) ≡ true) ys → k < length ys → is_earlier (name x) (name (get_or ys k d)) ≡ true
+      among : (ys : List X) (k : ℕ) → AllByRecursion (λ y. is_earlier (name x) (name y) ≡ true) ys → k < length ys
+          → is_earlier (name x) (name (get_or ys k d)) ≡ true
       among [] k a lt = absurd (omega arith)
       among (y ∷ ys) zero a lt = a.0
       among (y ∷ ys) (suc k) a lt = among ys k a.1 (omega arith)
@@ -74,20 +76,25 @@ module _ {X : Type 0} (name : X → Name) where
       let past : ltb (length xs) (length xs) ≡ false = le-ltb (length xs) (length xs) (omega arith) in
       rw (e, past) refl
 
-  found : (n : Name) (xs : List X) (i : ℕ) (d : X) → NamesRise name xs → i < length xs → name_cmp (name (get_or xs i d)) n ≡ Equal → position (has_name n) xs ≡ Some i
+  found : (n : Name) (xs : List X) (i : ℕ) (d : X) → NamesRise name xs → i < length xs → name_cmp (name (get_or xs i d)) n ≡ Equal
+      → position (has_name n) xs ≡ Some i
   found n xs i d h within equal =
       let lower : (k : ℕ) → k < i → has_name n (get_or xs k d) ≡ false
       = λ k lt. less-differs (name (get_or xs k d)) n (sym (alike_right names_total (name (get_or xs i d)) n (name (get_or xs k d)) equal) ∙ rises_far xs k i d h lt within) in
       position_at (has_name n) xs i (position_or_len_is (has_name n) xs i d (omega arith) lower (λ lt. equal-same (name (get_or xs i d)) n equal)) within
 
-  absent : (n : Name) (xs : List X) (i : ℕ) (d : X) → ((k : ℕ) → k < i → name_cmp (name (get_or xs k d)) n ≡ Less) → ((k : ℕ) → i ≤ k → k < length xs → name_cmp (name (get_or xs k d)) n ≡ Greater) → position (has_name n) xs ≡ None
+  absent : (n : Name) (xs : List X) (i : ℕ) (d : X) → ((k : ℕ) → k < i → name_cmp (name (get_or xs k d)) n ≡ Less)
+      → ((k : ℕ) → i ≤ k → k < length xs → name_cmp (name (get_or xs k d)) n ≡ Greater)
+      → position (has_name n) xs ≡ None
   absent n xs i d low high =
       let none : (k : ℕ) → k < length xs → has_name n (get_or xs k d) ≡ false
       = λ k lt. elim (cases_lt k i) [ inl below ↦ less-differs (name (get_or xs k d)) n (low k below) | inr above ↦ greater-differs (name (get_or xs k d)) n (high k above lt) ] in
       position_none (has_name n) xs (position_or_len_is (has_name n) xs (length xs) d (omega arith) none (λ lt. absurd (omega arith)))
 
   -- a search by halves finds what a search from the front does
-  pub sought : (n : Name) (xs : List X) (r : Result ℕ ℕ) → NamesRise name xs → IsSearchInRange r (length xs) → IsBinarySearchResult (λ y. name_cmp (name y) n) xs r → position (has_name n) xs ≡ result_ok r
+  pub sought : (n : Name) (xs : List X) (r : Result ℕ ℕ) → NamesRise name xs → IsSearchInRange r (length xs)
+      → IsBinarySearchResult (λ y. name_cmp (name y) n) xs r
+      → position (has_name n) xs ≡ result_ok r
   sought n [] (Ok i) h bound result = absurd (omega arith)
   sought n [] (Err i) h bound result = refl
   sought n (x ∷ xs) (Ok i) h bound result = found n (x ∷ xs) i x h bound (result x)
@@ -96,10 +103,12 @@ module _ {X : Type 0} (name : X → Name) where
       absent n (x ∷ xs) i x (λ k lt. parted.0 k x (omega arith) lt) (λ k le lt. parted.1 k x le lt)
 
 -- what is found stands at its place
-pub found_there : {X : Type 0} (test : X → Bool) (xs : List X) (d : X) (o : Option ℕ) → o ≡ position test xs → MatchOption o (find test xs ≡ None) (λ k. find test xs ≡ Some (get_or xs k d))
+pub found_there : {X : Type 0} (test : X → Bool) (xs : List X) (d : X) (o : Option ℕ) → o ≡ position test xs
+    → MatchOption o (find test xs ≡ None) (λ k. find test xs ≡ Some (get_or xs k d))
 found_there test xs d o e = go (ltb (position_or_len test xs) (length xs)) refl o e
   where
-    go : (t : Bool) → ltb (position_or_len test xs) (length xs) ≡ t → (o : Option ℕ) → o ≡ cond t (Some (position_or_len test xs)) None → MatchOption o (find test xs ≡ None) (λ k. find test xs ≡ Some (get_or xs k d))
+    go : (t : Bool) → ltb (position_or_len test xs) (length xs) ≡ t → (o : Option ℕ) → o ≡ cond t (Some (position_or_len test xs)) None
+        → MatchOption o (find test xs ≡ None) (λ k. find test xs ≡ Some (get_or xs k d))
     go true h None e = absurd (cc)
     go true h (Some k) e =
         let same : position_or_len test xs ≡ k = cc in

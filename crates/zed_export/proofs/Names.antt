@@ -29,14 +29,16 @@ position_mapped f test xs = rw (front_mapped f (λ y. not (test y)) xs, length-m
 
 pub board_place : (p : Plain) → IsOrdered p → (b : BoardId) → place_or_0 (board_names p) b ≡ number_or_0 p b
 board_place p h b =
-    let found : board_number p b ≡ position (λ x. same_board x.id b) (alive_boards p) = places-so (boards_there p) (boards_there_are_apart p h) b in
+    let found : board_number p b ≡ position (λ x. same_board x.id b) (alive_boards p) =
+    places-so (boards_there p) (boards_there_are_apart p h) b in
     ap (λ o. unwrap_or o 0) (position_mapped (λ (x : Board). x.id.name) (λ (x : Name). same_name x b.name) (alive_boards p) ∙ sym found)
 
 pub exit_places : (p : Plain) → IsOrdered p → (o : Option BoardId) → exit_place (board_names p) o ≡ exit_number p o
 exit_places p h None = refl
 exit_places p h (Some b) = board_place p h b
 
-pub parameter_places : (p : Plain) → IsOrdered p → (on_passage : Bool) (x : ThirdParameter) → place_parameter (board_names p) on_passage x ≡ parameter p on_passage x
+pub parameter_places : (p : Plain) → IsOrdered p → (on_passage : Bool) (x : ThirdParameter)
+    → place_parameter (board_names p) on_passage x ≡ parameter p on_passage x
 parameter_places p h on_passage (third.Board b) = board_place p h b
 parameter_places p h on_passage (third.Byte n) = rw (length-map (alive_boards p) (λ (b : Board). b.id.name)) refl
 

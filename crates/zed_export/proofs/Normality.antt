@@ -39,14 +39,16 @@ use Rattle.zed_export.proofs.Within.{neither, board_within, boards_within, count
 
 number_below : (p : Plain) → IsOrdered p → (b : BoardId) → 1 ≤ length (alive_boards p) → number_or_0 p b < length (alive_boards p)
 number_below p h b some =
-    let found : position (λ x. same_board x.id b) (alive_boards p) ≡ board_number p b = sym (places-so (boards_there p) (boards_there_are_apart p h) b) in
+    let found : position (λ x. same_board x.id b) (alive_boards p) ≡ board_number p b =
+    sym (places-so (boards_there p) (boards_there_are_apart p h) b) in
     subst (λ o. unwrap_or o 0 < length (alive_boards p)) found (found_or_0 (λ (x : Board). same_board x.id b) (alive_boards p) some)
 
 exit_below : (p : Plain) → IsOrdered p → (o : Option BoardId) → 1 ≤ length (alive_boards p) → exit_number p o < length (alive_boards p)
 exit_below p h None some = some
 exit_below p h (Some b) some = number_below p h b some
 
-parameter_below : (p : Plain) → IsOrdered p → (t : Bool) (x : ThirdParameter) → 1 ≤ length (alive_boards p) → t ≡ true → parameter p t x < length (alive_boards p)
+parameter_below : (p : Plain) → IsOrdered p → (t : Bool) (x : ThirdParameter) → 1 ≤ length (alive_boards p) → t ≡ true
+    → parameter p t x < length (alive_boards p)
 parameter_below p h true (third.Board b) some e = number_below p h b some
 parameter_below p h true (third.Byte n) some e = go (ltb n (length (alive_boards p))) refl
   where
@@ -59,9 +61,11 @@ stat_below : (b : Board) (o : Option StatId) (n : ℕ) → n ≡ length (alive_s
 stat_below b None n e = tt
 stat_below b (Some s) n e = rw e (found_within (λ (x : Stat). same_stat x.id s) (alive_stats b))
 
-stats_normal : (p : Plain) → IsOrdered p → (b : Board) (n : ℕ) → n ≡ length (alive_stats b) → 1 ≤ length (alive_boards p) → (lower : List (Option TextId)) (done : List StatData) (ss : List Stat)
+stats_normal : (p : Plain) → IsOrdered p → (b : Board) (n : ℕ) → n ≡ length (alive_stats b) → 1 ≤ length (alive_boards p)
+    → (lower : List (Option TextId)) (done : List StatData) (ss : List Stat)
     → length done ≡ length lower → IsOwned p lower done
-    → AllByRecursion FitsStat (exported_above p b lower ss) → AllByRecursion (λ (s : StatData). length (code_text s.code) ≤ READ_BODY_LIMIT) (exported_above p b lower ss)
+    → AllByRecursion FitsStat (exported_above p b lower ss)
+    → AllByRecursion (λ (s : StatData). length (code_text s.code) ≤ READ_BODY_LIMIT) (exported_above p b lower ss)
     → AreNormalStats (length (alive_boards p)) n b.tiles done (exported_above p b lower ss)
 stats_normal p h b n e some lower done [] long owned fits short = tt
 stats_normal p h b n e some lower done (s ∷ ss) long owned fits short =
@@ -88,7 +92,9 @@ texts_fit (name ∷ []) h = absurd h
 texts_fit (name ∷ message ∷ []) h = h
 texts_fit (name ∷ message ∷ more ∷ xs) h = absurd h
 
-board_normal : (limit number : ℕ) (p : Plain) → IsOrdered p → (b : Board) → limit ≤ READ_BODY_LIMIT → 1 ≤ length (alive_boards p) → IsRegularBoard b → board_refusal limit number (exported_board p b) ≡ None → FitsBoard (exported_board p b) → IsNormalBoard (length (alive_boards p)) (exported_board p b)
+board_normal : (limit number : ℕ) (p : Plain) → IsOrdered p → (b : Board) → limit ≤ READ_BODY_LIMIT → 1 ≤ length (alive_boards p)
+    → IsRegularBoard b → board_refusal limit number (exported_board p b) ≡ None → FitsBoard (exported_board p b)
+    → IsNormalBoard (length (alive_boards p)) (exported_board p b)
 board_normal limit number p ordered b low some r h fits =
     let x = exported_board p b in
     let within = board_within limit number x h in
@@ -113,14 +119,19 @@ board_normal limit number p ordered b low some r h fits =
       stats = stats_normal p ordered b (length x.stats) same some [] [] (alive_stats b) refl (owned_first p) fits.stats (programs_below x.stats READ_BODY_LIMIT programs);
     }
 
-all_normal : (limit number : ℕ) (p : Plain) → IsOrdered p → (bs : List Board) → limit ≤ READ_BODY_LIMIT → 1 ≤ length (alive_boards p) → AllByRecursion IsRegularBoard bs → boards_refusal limit number (map (exported_board p) bs) ≡ None → AllByRecursion FitsBoard (map (exported_board p) bs)
+all_normal : (limit number : ℕ) (p : Plain) → IsOrdered p → (bs : List Board) → limit ≤ READ_BODY_LIMIT → 1 ≤ length (alive_boards p)
+    → AllByRecursion IsRegularBoard bs → boards_refusal limit number (map (exported_board p) bs) ≡ None
+    → AllByRecursion FitsBoard (map (exported_board p) bs)
     → AllByRecursion (IsNormalBoard (length (alive_boards p))) (map (exported_board p) bs)
 all_normal limit number p ordered [] low some r h fits = tt
 all_normal limit number p ordered (b ∷ bs) low some r h fits =
-    let both = neither (board_refusal limit number (exported_board p b)) (boards_refusal limit (number + 1) (map (exported_board p) bs)) h in
+    let both =
+    neither (board_refusal limit number (exported_board p b)) (boards_refusal limit (number + 1) (map (exported_board p) bs)) h in
     (board_normal limit number p ordered b low some r.0 both.0 fits.0, all_normal limit (number + 1) p ordered bs low some r.1 both.1 fits.1)
 
-pub world_normal : (limit : ℕ) (p : Plain) → IsRegular p → IsOrdered p → limit ≤ READ_BODY_LIMIT → refusal_of limit p ≡ None → FitsHeader (world_of p).header → AllByRecursion FitsBoard (world_of p).boards → HasNormalParts (world_of p)
+pub world_normal : (limit : ℕ) (p : Plain) → IsRegular p → IsOrdered p → limit ≤ READ_BODY_LIMIT → refusal_of limit p ≡ None
+    → FitsHeader (world_of p).header → AllByRecursion FitsBoard (world_of p).boards
+    → HasNormalParts (world_of p)
 world_normal limit p r ordered low h fits_header fits_boards =
     let n = length (alive_boards p) in
     let same : length (exported_boards p) ≡ n = length-map (alive_boards p) (exported_board p) in

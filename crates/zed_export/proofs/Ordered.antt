@@ -37,7 +37,9 @@ rise-map f name [] h = tt
 rise-map f name (x ∷ xs) h = (all-map (λ y. is_earlier (name (f x)) (name y) ≡ true) f xs h.0, rise-map f name xs h.1)
 
 pub names_there_rise : (p : Plain) → IsOrdered p → NamesRise (λ n. n) (map (λ b. b.id.name) (boards_there p))
-names_there_rise p h = rise-map (λ (b : Board). b.id.name) (λ n. n) _ (rise-filter (λ (b : Board). b.id.name) (λ (b : Board). not b.removed) p.boards h.boards)
+names_there_rise p h =
+    rise-map (λ (b : Board). b.id.name) (λ n. n) _ (rise-filter (λ (b : Board). b.id.name) (λ (b : Board). not b.removed) p.boards h.boards)
 
 pub stat_names_rise : (b : Board) → NamesRise (λ s. s.id.name) b.stats → NamesRise (λ n. n) (stat_names b)
-stat_names_rise b h = rise-map (λ (s : Stat). s.id.name) (λ n. n) _ (rise-filter (λ (s : Stat). s.id.name) (λ (s : Stat). not s.removed) b.stats h)
+stat_names_rise b h =
+    rise-map (λ (s : Stat). s.id.name) (λ n. n) _ (rise-filter (λ (s : Stat). s.id.name) (λ (s : Stat). not s.removed) b.stats h)

@@ -30,7 +30,9 @@ front_within test (x ∷ xs) = go (test x) (front_within test xs)
     go true h = omega arith
     go false h = omega arith
 
-new_member : (t : Bool) (end more m n : ℕ) → end ≡ more → end ≡ m + 1 → cond (ltb (m + cond t 0 1) more) (Some (m + cond t 0 1)) None ≡ Some n → (t ≡ true) × (n ≡ m)
+new_member : (t : Bool) (end more m n : ℕ) → end ≡ more → end ≡ m + 1
+    → cond (ltb (m + cond t 0 1) more) (Some (m + cond t 0 1)) None ≡ Some n
+    → (t ≡ true) × (n ≡ m)
 new_member true end more m n e f found =
     let test : ltb (m + 0) more ≡ true = lt-ltb (m + 0) more (omega arith) in
     let same : Some (m + 0) ≡ Some n = sym (ap (λ (b : Bool). cond b (Some (m + 0)) None) test) ∙ found in
@@ -42,7 +44,8 @@ new_member false end more m n e f found =
     absurd (cc)
 
 -- what is found in a list with one more member is found before, or is that member
-pub found_in_more : {X : Type 0} (test : X → Bool) (xs : List X) (y : X) (n : ℕ) → position test (xs ++ y ∷ []) ≡ Some n → (position test xs ≡ Some n) ⊎ ((position test xs ≡ None) × (test y ≡ true) × (n ≡ length xs))
+pub found_in_more : {X : Type 0} (test : X → Bool) (xs : List X) (y : X) (n : ℕ) → position test (xs ++ y ∷ []) ≡ Some n
+    → (position test xs ≡ Some n) ⊎ ((position test xs ≡ None) × (test y ≡ true) × (n ≡ length xs))
 found_in_more test xs y n e = elim (cases_lt k m) [ inl lt ↦ inl (before lt) | inr ge ↦ inr (last (test y) refl ge) ]
   where
     k : ℕ
@@ -60,18 +63,23 @@ found_in_more test xs y n e = elim (cases_lt k m) [ inl lt ↦ inl (before lt) |
     before : k < m → position test xs ≡ Some n
     before lt =
         let ne : eqb k m ≡ false = ne_eqb k m (λ h. omega arith) in
-        let same : position_or_len test (xs ++ y ∷ []) ≡ k = position_or_len_push test xs y ∙ ap (λ (t : Bool). cond t (m + cond (test y) 0 1) k) ne in
+        let same : position_or_len test (xs ++ y ∷ []) ≡ k =
+        position_or_len_push test xs y ∙ ap (λ (t : Bool). cond t (m + cond (test y) 0 1) k) ne in
         let inside : ltb k more ≡ true = lt-ltb k more (omega (arith, longer)) in
         let here : ltb k m ≡ true = lt-ltb k m lt in
-        let found : Some k ≡ Some n = sym (ap (λ (i : ℕ). cond (ltb i more) (Some i) None) same ∙ ap (λ (t : Bool). cond t (Some k) None) inside) ∙ e in
+        let found : Some k ≡ Some n =
+        sym (ap (λ (i : ℕ). cond (ltb i more) (Some i) None) same ∙ ap (λ (t : Bool). cond t (Some k) None) inside) ∙ e in
         ap (λ (t : Bool). cond t (Some k) None) here ∙ found
 
     last : (t : Bool) → test y ≡ t → m ≤ k → (position test xs ≡ None) × (test y ≡ true) × (n ≡ length xs)
     last t h ge =
         let here : ltb k m ≡ false = le-ltb k m ge in
         let at_end : eqb k m ≡ true = eq-eqb k m (omega (arith, front_within (λ x. not (test x)) xs)) in
-        let place : position_or_len test (xs ++ y ∷ []) ≡ m + cond t 0 1 = position_or_len_push test xs y ∙ ap (λ (b : Bool). cond b (m + cond (test y) 0 1) k) at_end ∙ ap (λ (b : Bool). m + cond b 0 1) h in
-        let found : cond (ltb (m + cond t 0 1) more) (Some (m + cond t 0 1)) None ≡ Some n = sym (ap (λ (i : ℕ). cond (ltb i more) (Some i) None) place) ∙ e in
+        let place : position_or_len test (xs ++ y ∷ []) ≡ m + cond t 0 1 =
+        position_or_len_push test xs y ∙ ap (λ (b : Bool). cond b (m + cond (test y) 0 1) k) at_end
+        ∙ ap (λ (b : Bool). m + cond b 0 1) h in
+        let found : cond (ltb (m + cond t 0 1) more) (Some (m + cond t 0 1)) None ≡ Some n =
+        sym (ap (λ (i : ℕ). cond (ltb i more) (Some i) None) place) ∙ e in
         let it = new_member t (m + 1) more m n (sym longer) refl found in
         (ap (λ (b : Bool). cond b (Some k) None) here, h ∙ it.0, it.1)
 

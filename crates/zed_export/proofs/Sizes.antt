@@ -11,8 +11,10 @@ use Rattle.zed_export.specs.World.{exported_code, exported_stat, exported_above}
 use Rattle.zed_export.specs.Limits.{told}
 
 -- one more stat in a count
-pub one_more_stat : (p : Plain) (b : Board) (lower : List (Option TextId)) (s : Stat) (ss : List Stat) (bytes program : ℕ) → program ≡ length (code_text (exported_code p lower s.fields.text))
-    → told (told (told (bytes + 33) + program) + length (flat_map stat_text (exported_above p b (lower ++ s.fields.text ∷ []) ss))) ≡ told (bytes + length (flat_map stat_text (exported_above p b lower (s ∷ ss))))
+pub one_more_stat : (p : Plain) (b : Board) (lower : List (Option TextId)) (s : Stat) (ss : List Stat) (bytes program : ℕ)
+    → program ≡ length (code_text (exported_code p lower s.fields.text))
+    → told (told (told (bytes + 33) + program) + length (flat_map stat_text (exported_above p b (lower ++ s.fields.text ∷ []) ss)))
+    ≡ told (bytes + length (flat_map stat_text (exported_above p b lower (s ∷ ss))))
 one_more_stat p b lower s ss bytes program e =
     let rest = flat_map stat_text (exported_above p b (lower ++ s.fields.text ∷ []) ss) in
     let this = exported_stat p b lower s in

@@ -47,7 +47,8 @@ board_within limit n b h =
     (few_stats n (length b.stats) both.0, within_limit limit n (length (body_text b)) both.1)
 
 -- none of the boards has too many stats
-pub all_few : (limit n : ℕ) (p : Plain) (bs : List Board) → boards_refusal limit n (map (exported_board p) bs) ≡ None → AllByRecursion (λ (b : Board). length (alive_stats b) ≤ 151) bs
+pub all_few : (limit n : ℕ) (p : Plain) (bs : List Board) → boards_refusal limit n (map (exported_board p) bs) ≡ None
+    → AllByRecursion (λ (b : Board). length (alive_stats b) ≤ 151) bs
 all_few limit n p [] h = tt
 all_few limit n p (b ∷ bs) h =
     let x = exported_board p b in
@@ -83,11 +84,14 @@ pub title_within : (limit : ℕ) (p : Plain) → refusal_of limit p ≡ None →
 title_within limit p h = title_made (has p (thing.Board title)) _ (neither (title_refusal p) (or_else (count_refusal (length (alive_boards p))) (boards_refusal limit 0 (exported_boards p))) h).0
 
 -- where a title was made and stays, there is a board
-pub some_board : (bs : List Board) → AllByRecursion IsRegularBoard bs → list_any (λ (b : Board). same_board b.id title) bs ≡ true → 1 ≤ length (filter (λ (b : Board). not b.removed) bs)
+pub some_board : (bs : List Board) → AllByRecursion IsRegularBoard bs → list_any (λ (b : Board). same_board b.id title) bs ≡ true
+    → 1 ≤ length (filter (λ (b : Board). not b.removed) bs)
 some_board [] r h = absurd (cc)
 some_board (b ∷ bs) r h = go (some_board bs r.1) (same_board b.id title) refl (b.removed) refl h
   where
-    go : (list_any (λ (x : Board). same_board x.id title) bs ≡ true → 1 ≤ length (filter (λ (x : Board). not x.removed) bs)) → (t : Bool) → same_board b.id title ≡ t → (gone : Bool) → b.removed ≡ gone → (t || list_any (λ (x : Board). same_board x.id title) bs) ≡ true → 1 ≤ length (cond (not gone) (b ∷ filter (λ (x : Board). not x.removed) bs) (filter (λ (x : Board). not x.removed) bs))
+    go : (list_any (λ (x : Board). same_board x.id title) bs ≡ true → 1 ≤ length (filter (λ (x : Board). not x.removed) bs)) → (t : Bool)
+        → same_board b.id title ≡ t → (gone : Bool) → b.removed ≡ gone → (t || list_any (λ (x : Board). same_board x.id title) bs) ≡ true
+        → 1 ≤ length (cond (not gone) (b ∷ filter (λ (x : Board). not x.removed) bs) (filter (λ (x : Board). not x.removed) bs))
     go rest t e false k h = omega arith
     go rest true e true k h = let stays : b.removed ≡ false = r.0.title_stays e in absurd (cc)
     go rest false e true k h = rest h
@@ -98,7 +102,8 @@ some_stat [] h = absurd h
 some_stat (s ∷ ss) h = rw h.1 (omega arith)
 
 -- a program isn't longer than the body
-pub programs_below : (ss : List StatData) (most : ℕ) → length (flat_map stat_text ss) ≤ most → AllByRecursion (λ (s : StatData). length (code_text s.code) ≤ most) ss
+pub programs_below : (ss : List StatData) (most : ℕ) → length (flat_map stat_text ss) ≤ most
+    → AllByRecursion (λ (s : StatData). length (code_text s.code) ≤ most) ss
 programs_below [] most h = tt
 programs_below (s ∷ ss) most h =
     let sum = length-append (stat_text s) (flat_map stat_text ss) in
@@ -106,7 +111,8 @@ programs_below (s ∷ ss) most h =
     (omega arith, programs_below ss most (omega arith))
 
 -- no body is too large for a reader
-pub all_readable : (limit n : ℕ) (bs : List BoardData) → limit ≤ READ_BODY_LIMIT → boards_refusal limit n bs ≡ None → AllByRecursion (λ (b : BoardData). length (body_text b) ≤ READ_BODY_LIMIT) bs
+pub all_readable : (limit n : ℕ) (bs : List BoardData) → limit ≤ READ_BODY_LIMIT → boards_refusal limit n bs ≡ None
+    → AllByRecursion (λ (b : BoardData). length (body_text b) ≤ READ_BODY_LIMIT) bs
 all_readable limit n [] low h = tt
 all_readable limit n (b ∷ bs) low h =
     let both = neither (board_refusal limit n b) (boards_refusal limit (n + 1) bs) h in
@@ -114,7 +120,9 @@ all_readable limit n (b ∷ bs) low h =
     (omega arith, all_readable limit (n + 1) bs low both.1)
 
 -- where a title was made and the boards are few, the first of them over a limit is told
-pub first_of_boards : (limit : ℕ) (p : Plain) (r : Option ExportError) → has p (thing.Board title) ≡ true → length (alive_boards p) - 1 ≤ 100 → r ≡ boards_refusal limit 0 (exported_boards p) → r ≡ refusal_of limit p
+pub first_of_boards : (limit : ℕ) (p : Plain) (r : Option ExportError) → has p (thing.Board title) ≡ true
+    → length (alive_boards p) - 1 ≤ 100 → r ≡ boards_refusal limit 0 (exported_boards p)
+    → r ≡ refusal_of limit p
 first_of_boards limit p r made few e =
     let h : ltb 100 (length (alive_boards p) - 1) ≡ false = le-ltb _ _ few in
     rw (made, h) e

@@ -77,4 +77,5 @@ stat_place names (Some s) = place_among names s.name
 
 -- of stats with these texts, the lowest past the player that uses a text has its bytes for a program
 abbrev pub IsOwned : Plain → List (Option TextId) → List StatData → Type 0
-IsOwned p lower done = (t : TextId) (n : ℕ) → user_of t lower ≡ Some n → IsSomeAnd (slice_get done n) (λ s. s.code ≡ code_with None (text p t))
+IsOwned p lower done =
+    (t : TextId) (n : ℕ) → user_of t lower ≡ Some n → IsSomeAnd (slice_get done n) (λ s. s.code ≡ code_with None (text p t))

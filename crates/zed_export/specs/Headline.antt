@@ -24,7 +24,8 @@ pub record AreAuthored (es : List Edit) : Type 0 where
 -- what is saved of the set of such edits is read as the exported world
 abbrev pub AuthoredIsRead : Type 0
 AuthoredIsRead = (limit : ℕ) (es : List Edit) (file : List ℕ)
-    → AreAuthored es → limit ≤ largest_body → saved limit (replay (set_of es)) ≡ Ok file → world_at file ≡ Ok (world_of (replay (set_of es)))
+    → AreAuthored es → limit ≤ largest_body → saved limit (replay (set_of es)) ≡ Ok file
+    → world_at file ≡ Ok (world_of (replay (set_of es)))
 
 -- two replicas of one world, neither stale, that accepted the same edits, however they came by them
 pub record HaveAcceptedTheSame (d o : Replica) : Type 0 where

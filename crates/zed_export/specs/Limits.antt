@@ -55,7 +55,8 @@ title_refusal p = if has p (thing.Board title) then None else Some NoWorld
 
 -- the first limit that a document goes over
 abbrev pub refusal_of : ℕ → Plain → Option ExportError
-refusal_of limit p = or_else (title_refusal p) (or_else (count_refusal (length (alive_boards p))) (boards_refusal limit 0 (exported_boards p)))
+refusal_of limit p =
+    or_else (title_refusal p) (or_else (count_refusal (length (alive_boards p))) (boards_refusal limit 0 (exported_boards p)))
 
 -- a value, or the refusal where a limit is gone over
 abbrev pub unless_over : {Y : Type 0} → Option ExportError → Y → Result Y ExportError

@@ -25,7 +25,8 @@ none_broken calls broken = go broken.0 broken.1 broken.2 broken.3
     go (first ∷ front) ask rest is = let no : [] ≡ first ∷ (front ++ ask ∷ rest) = is in cc
 
 -- nothing was asked for
-pub asks_nothing : {H : Type 0} (called : H → Call → H → Type 0) (reads last : List Ask) (e : Refusal) (host : H) → (e ≡ File → ⊥) → Asks called reads last (Some e) host host
+pub asks_nothing : {H : Type 0} (called : H → Call → H → Type 0) (reads last : List Ask) (e : Refusal) (host : H) → (e ≡ File → ⊥)
+    → Asks called reads last (Some e) host host
 asks_nothing called reads last e host other = ([], refl, inl (other, ([], reads, refl, refl)))
 
 -- a command that was refused after its reads, for what isn't theirs
@@ -50,7 +51,8 @@ refused_at called reads last e old new asks = (
 )
 
 -- another refusal in place of one, or of none
-pub refused_instead : {H : Type 0} (called : H → Call → H → Type 0) (reads : List Ask) (told : Option Refusal) (e : Refusal) (old new : H) → (e ≡ File → ⊥) → (e ≡ Memory → ⊥)
+pub refused_instead : {H : Type 0} (called : H → Call → H → Type 0) (reads : List Ask) (told : Option Refusal) (e : Refusal) (old new : H)
+    → (e ≡ File → ⊥) → (e ≡ Memory → ⊥)
     → Asks called reads [] told old new → Asks called reads [] (Some e) old new
 refused_instead called reads None e old new other ample asks = refused_after called reads [] e old new other asks
 refused_instead called reads (Some f) e old new other ample asks = (
@@ -116,7 +118,8 @@ file_lacks_nothing is = cc
 
 -- the first of some reads, if it was refused
 pub read_refused : {H : Type 0} (called : H → Call → H → Type 0) (name : List ℕ) (reads : List Ask) (e : Refusal) (old new : H)
-    → called old (call (Reading name) (is_file_refusal {X = Vec ℕ} (Err e))) new → (e ≡ Memory) ⊎ (e ≡ File) → Asks called (Reading name ∷ reads) [] (Some e) old new
+    → called old (call (Reading name) (is_file_refusal {X = Vec ℕ} (Err e))) new → (e ≡ Memory) ⊎ (e ≡ File)
+    → Asks called (Reading name ∷ reads) [] (Some e) old new
 read_refused called name reads e old new is why =
     elim why [
       | inl memory ↦ subst (λ e. called old (call (Reading name) (is_file_refusal {X = Vec ℕ} (Err e))) new → Asks called (Reading name ∷ reads) [] (Some e) old new) (sym memory)
@@ -126,61 +129,77 @@ read_refused called name reads e old new is why =
     ]
 
 -- it was read
-pub read_passed : {H : Type 0} (called : H → Call → H → Type 0) (name : List ℕ) (old new : H) → called old (call (Reading name) false) new → Asks called (Reading name ∷ []) [] None old new
+pub read_passed : {H : Type 0} (called : H → Call → H → Type 0) (name : List ℕ) (old new : H) → called old (call (Reading name) false) new
+    → Asks called (Reading name ∷ []) [] None old new
 read_passed called name old new is = (call (Reading name) false ∷ [], (new, is, refl), refl)
 
 -- the others aren't needed
-pub read_then_stopped : {H : Type 0} (called : H → Call → H → Type 0) (name : List ℕ) (reads : List Ask) (e : Refusal) (old new : H) → (e ≡ File → ⊥)
+pub read_then_stopped : {H : Type 0} (called : H → Call → H → Type 0) (name : List ℕ) (reads : List Ask) (e : Refusal) (old new : H)
+    → (e ≡ File → ⊥)
     → called old (call (Reading name) false) new → Asks called (Reading name ∷ reads) [] (Some e) old new
-read_then_stopped called name reads e old new other is = (call (Reading name) false ∷ [], (new, is, refl), inl (other, (Reading name ∷ [], reads, refl, refl)))
+read_then_stopped called name reads e old new other is =
+    (call (Reading name) false ∷ [], (new, is, refl), inl (other, (Reading name ∷ [], reads, refl, refl)))
 
 -- an answer after all reads
 pub answer_after : {X H : Type 0} (P : X → Type 0) (Q : Refusal → Type 0) (called : H → Call → H → Type 0) (reads : List Ask) (answer : Result X Refusal) (old new : H)
-    → Asks called reads [] None old new → MatchResult answer P (λ e. (e ≡ Memory) ⊎ Q e) → ((e : Refusal) → Q e → e ≡ File → ⊥) → Asks called reads [] (refusal_in answer) old new
+    → Asks called reads [] None old new → MatchResult answer P (λ e. (e ≡ Memory) ⊎ Q e) → ((e : Refusal) → Q e → e ≡ File → ⊥)
+    → Asks called reads [] (refusal_in answer) old new
 answer_after P Q called reads (Ok x) old new asks match other = asks
-answer_after P Q called reads (Err e) old new asks match other = refused_after called reads [] e old new (is_other (Q e) e match (other e)) asks
+answer_after P Q called reads (Err e) old new asks match other =
+    refused_after called reads [] e old new (is_other (Q e) e match (other e)) asks
 
 -- what was read of some files, and that the others come next
 abbrev pub ReadSoFar : {H : Type 0} → (H → Call → H → Type 0) → List (Bor (List ℕ)) → ℕ → H → H → Type 0
 ReadSoFar called names i old new =
     (done : List Ask) × (reading (texts_of names) ≡ done ++ reading (texts_of (drop i names))) × Leads called (passed done) old new
 
-pub read_next : {H : Type 0} (called : H → Call → H → Type 0) (names : List (Bor (List ℕ))) (i : ℕ) (d : Bor (List ℕ)) (old mid new : H) → i < length names
-    → ReadSoFar called names i old mid → called mid (call (Reading (get_or names i d).now) false) new → ReadSoFar called names (i + 1) old new
+pub read_next : {H : Type 0} (called : H → Call → H → Type 0) (names : List (Bor (List ℕ))) (i : ℕ) (d : Bor (List ℕ)) (old mid new : H)
+    → i < length names
+    → ReadSoFar called names i old mid → called mid (call (Reading (get_or names i d).now) false) new
+    → ReadSoFar called names (i + 1) old new
 read_next called names i d old mid new lt so is =
     let ask = Reading (get_or names i d).now in
-    let left : reading (texts_of (drop i names)) ≡ ask ∷ reading (texts_of (drop (i + 1) names)) = rw add-one (ap (λ ns. reading (texts_of ns)) (drop-cons names i d lt)) in (
+    let left : reading (texts_of (drop i names)) ≡ ask ∷ reading (texts_of (drop (i + 1) names)) =
+    rw add-one (ap (λ ns. reading (texts_of ns)) (drop-cons names i d lt)) in (
       so.0 ++ ask ∷ [],
       so.1 ∙ ap (λ asks. so.0 ++ asks) left ∙ sym (append_assoc so.0 (ask ∷ []) (reading (texts_of (drop (i + 1) names)))),
       subst (λ calls. Leads called calls old new) (sym (passed_then so.0 (ask ∷ []))) (leads_then called (passed so.0) (call ask false ∷ []) old mid new so.2 (new, is, refl)),
     )
 
 -- the next one couldn't be read
-read_lost : {H : Type 0} (called : H → Call → H → Type 0) (names : List (Bor (List ℕ))) (i : ℕ) (d : Bor (List ℕ)) (old mid new : H) (e : Refusal) → i < length names → (e ≡ Memory → ⊥)
-    → ReadSoFar called names i old mid → called mid (call (Reading (get_or names i d).now) true) new → Asks called (reading (texts_of names)) [] (Some e) old new
+read_lost : {H : Type 0} (called : H → Call → H → Type 0) (names : List (Bor (List ℕ))) (i : ℕ) (d : Bor (List ℕ)) (old mid new : H) (e : Refusal)
+    → i < length names → (e ≡ Memory → ⊥)
+    → ReadSoFar called names i old mid → called mid (call (Reading (get_or names i d).now) true) new
+    → Asks called (reading (texts_of names)) [] (Some e) old new
 read_lost called names i d old mid new e lt ample so is =
     let ask = Reading (get_or names i d).now in
-    let left : reading (texts_of (drop i names)) ≡ ask ∷ reading (texts_of (drop (i + 1) names)) = rw add-one (ap (λ ns. reading (texts_of ns)) (drop-cons names i d lt)) in (
+    let left : reading (texts_of (drop i names)) ≡ ask ∷ reading (texts_of (drop (i + 1) names)) =
+    rw add-one (ap (λ ns. reading (texts_of ns)) (drop-cons names i d lt)) in (
       failed_at so.0 ask,
       leads_then called (passed so.0) (call ask true ∷ []) old mid new so.2 (new, is, refl),
       inr (inl (ample, (so.0, ask, reading (texts_of (drop (i + 1) names)), so.1 ∙ ap (λ asks. so.0 ++ asks) left, refl))),
     )
 
 -- no more were read
-pub read_enough : {H : Type 0} (called : H → Call → H → Type 0) (names : List (Bor (List ℕ))) (i : ℕ) (old new : H) (e : Refusal) → (e ≡ File → ⊥)
+pub read_enough : {H : Type 0} (called : H → Call → H → Type 0) (names : List (Bor (List ℕ))) (i : ℕ) (old new : H) (e : Refusal)
+    → (e ≡ File → ⊥)
     → ReadSoFar called names i old new → Asks called (reading (texts_of names)) [] (Some e) old new
 read_enough called names i old new e other so = (passed so.0, so.2, inl (other, (so.0, reading (texts_of (drop i names)), so.1, refl)))
 
-pub next_lost : {H : Type 0} (called : H → Call → H → Type 0) (names : List (Bor (List ℕ))) (i : ℕ) (d : Bor (List ℕ)) (old mid new : H) (e told : Refusal) → i < length names → (told ≡ Memory → ⊥)
-    → ReadSoFar called names i old mid → called mid (call (Reading (get_or names i d).now) (is_file_refusal {X = Vec ℕ} (Err e))) new → e ≡ File
+pub next_lost : {H : Type 0} (called : H → Call → H → Type 0) (names : List (Bor (List ℕ))) (i : ℕ) (d : Bor (List ℕ)) (old mid new : H) (e told : Refusal)
+    → i < length names → (told ≡ Memory → ⊥)
+    → ReadSoFar called names i old mid → called mid (call (Reading (get_or names i d).now) (is_file_refusal {X = Vec ℕ} (Err e))) new
+    → e ≡ File
     → Asks called (reading (texts_of names)) [] (Some told) old new
 next_lost called names i d old mid new e told lt ample so is file =
     let P : Refusal → Type 0 = λ e. called mid (call (Reading (get_or names i d).now) (is_file_refusal {X = Vec ℕ} (Err e))) new → Asks called (reading (texts_of names)) [] (Some told) old new in
     subst P (sym file) (λ is. read_lost called names i d old mid new told lt ample so is) is
 
 -- or was refused, for want of memory
-pub next_refused : {H : Type 0} (called : H → Call → H → Type 0) (names : List (Bor (List ℕ))) (i : ℕ) (d : Bor (List ℕ)) (old mid new : H) (e told : Refusal) → i < length names → (told ≡ File → ⊥)
-    → ReadSoFar called names i old mid → called mid (call (Reading (get_or names i d).now) (is_file_refusal {X = Vec ℕ} (Err e))) new → (e ≡ Memory) ⊎ (e ≡ File) → (e ≡ File → ⊥)
+pub next_refused : {H : Type 0} (called : H → Call → H → Type 0) (names : List (Bor (List ℕ))) (i : ℕ) (d : Bor (List ℕ)) (old mid new : H) (e told : Refusal)
+    → i < length names → (told ≡ File → ⊥)
+    → ReadSoFar called names i old mid → called mid (call (Reading (get_or names i d).now) (is_file_refusal {X = Vec ℕ} (Err e))) new
+    → (e ≡ Memory) ⊎ (e ≡ File) → (e ≡ File → ⊥)
     → Asks called (reading (texts_of names)) [] (Some told) old new
 next_refused called names i d old mid new e told lt other so is why read =
     let P : Refusal → Type 0 = λ e. called mid (call (Reading (get_or names i d).now) (is_file_refusal {X = Vec ℕ} (Err e))) new → Asks called (reading (texts_of names)) [] (Some told) old new in
@@ -190,7 +209,9 @@ next_refused called names i d old mid new e told lt other so is why read =
     ]
 
 -- the file wasn't written
-pub write_failed : {H : Type 0} (called : H → Call → H → Type 0) (out : List ℕ) (e : Refusal) (old new : H) → e ≡ File → called old (call (Writing out) true) new → Asks called [] (writing out) (Some e) old new
+pub write_failed : {H : Type 0} (called : H → Call → H → Type 0) (out : List ℕ) (e : Refusal) (old new : H) → e ≡ File
+    → called old (call (Writing out) true) new
+    → Asks called [] (writing out) (Some e) old new
 write_failed called out e old new file is =
     (call (Writing out) true ∷ [], (new, is, refl), inr (inr (file, (call (Writing out) true ∷ [], ([], Writing out, cond (bytes_eq out (codes "stdout")) [] (Printing ∷ []), refl, refl), refl))))
 
@@ -198,7 +219,8 @@ with_line : (out : List ℕ) → bytes_eq out (codes "stdout") ≡ false → wri
 with_line out other = ap (λ b. Writing out ∷ cond b [] (Printing ∷ [])) other
 
 -- nor the line printed
-pub line_failed : {H : Type 0} (called : H → Call → H → Type 0) (out : List ℕ) (e : Refusal) (old mid new : H) → bytes_eq out (codes "stdout") ≡ false → e ≡ File
+pub line_failed : {H : Type 0} (called : H → Call → H → Type 0) (out : List ℕ) (e : Refusal) (old mid new : H)
+    → bytes_eq out (codes "stdout") ≡ false → e ≡ File
     → called old (call (Writing out) false) mid → called mid (call Printing true) new → Asks called [] (writing out) (Some e) old new
 line_failed called out e old mid new other file first is = (
   call (Writing out) false ∷ call Printing true ∷ [],
@@ -207,6 +229,8 @@ line_failed called out e old mid new other file first is = (
 )
 
 -- a text was printed, or not
-pub print_failed : {H : Type 0} (called : H → Call → H → Type 0) (e : Refusal) (old new : H) → e ≡ File → called old (call Printing true) new → Asks called [] (Printing ∷ []) (Some e) old new
+pub print_failed : {H : Type 0} (called : H → Call → H → Type 0) (e : Refusal) (old new : H) → e ≡ File
+    → called old (call Printing true) new
+    → Asks called [] (Printing ∷ []) (Some e) old new
 print_failed called e old new file is =
     (call Printing true ∷ [], (new, is, refl), inr (inr (file, (call Printing true ∷ [], ([], Printing, [], refl, refl), refl))))

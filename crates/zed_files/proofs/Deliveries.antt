@@ -38,7 +38,8 @@ same_refusal : (e f : DocumentError) → refused e ≡ refused f → e ≡ f
 same_refusal e f same = cc
 
 -- a document that isn't stale answers as its deliveries do
-each_of_sound : (d : Replica) (es : List Edit) (r : Delivery) (left : List Edit) → d.is_stale ≡ false → AnswersEach d es r left → DeliversEach d es r left
+each_of_sound : (d : Replica) (es : List Edit) (r : Delivery) (left : List Edit) → d.is_stale ≡ false → AnswersEach d es r left
+    → DeliversEach d es r left
 each_of_sound d es r left sound each =
     subst (λ b. MatchBool b ((r ≡ Err document.Stale) × (left ≡ d.edits)) (DeliversEach d es r left)) sound each
 
@@ -55,7 +56,8 @@ all_delivered law d es left sound empty fit why =
     ]
 
 -- one was refused: the first that clashes, unless memory ran out
-pub one_refused : DeliveriesComeToSets → (d : Replica) (es left : List Edit) (e : DocumentError) (r : Refusal) → d.is_stale ≡ false → d.edits ≡ [] → AllFit es
+pub one_refused : DeliveriesComeToSets → (d : Replica) (es left : List Edit) (e : DocumentError) (r : Refusal) → d.is_stale ≡ false
+    → d.edits ≡ [] → AllFit es
     → r ≡ document_refusal e → (refused e ≡ Err document.Memory) ⊎ AnswersEach d es (Err e) left
     → (r ≡ Memory) ⊎ ((s : Stamp) × IsFirstClash es s × (r ≡ Clash s))
 one_refused law d es left e r sound empty fit is why =
@@ -82,7 +84,8 @@ lacked_memory e is = ap refused (lacks_memory e is)
 
 -- ---- deliveries after others
 
-pub delivers_to : (d f : Replica) (es : List Edit) (r : Delivery) (left : List Edit) → f ≡ d → DeliversEach f es r left → DeliversEach d es r left
+pub delivers_to : (d f : Replica) (es : List Edit) (r : Delivery) (left : List Edit) → f ≡ d → DeliversEach f es r left
+    → DeliversEach d es r left
 delivers_to d f es r left same each = subst (λ x. DeliversEach x es r left) same each
 
 -- edits of which no two clash agree, and the document has their set
@@ -106,7 +109,8 @@ taken_then law d es more left r taken each =
     (delivers_aside d.counts (record start { edits = d.edits }) more r left (subst (λ q. DeliversEach q more r left) same each))
 
 -- more edits were delivered, up to the first that clashes, if one does
-pub more_came : DeliveriesGoOn → DeliveriesComeToSets → (d new : Replica) (es more : List Edit) (clash : Option Stamp) → AllFit es → AllFit more → new.world ≡ d.world → new.is_stale ≡ false
+pub more_came : DeliveriesGoOn → DeliveriesComeToSets → (d new : Replica) (es more : List Edit) (clash : Option Stamp) → AllFit es
+    → AllFit more → new.world ≡ d.world → new.is_stale ≡ false
     → DeliversEach d more (unless_clash clash) new.edits → CameTo es d None → CameTo (es ++ more) new clash
 more_came law sets d new es more None fit fits world sound each came =
     (sound, subst (λ w. DeliversEach (document_of w [] []) (es ++ more) (Ok tt) new.edits) (sym world) (taken_then law d es more new.edits (Ok tt) came each))
@@ -139,17 +143,20 @@ none_clash None is = refl
 none_clash (Some s) is = absurd (let no : true ≡ false = is in cc)
 
 -- a file of which nothing is delivered, since two edits clashed before
-pub read_behind : (feed : Option FeedState) (clash : Option Stamp) (es : List Edit) (bytes : List ℕ) (r : Told) → is_some clash ≡ true → CameInto es feed clash
+pub read_behind : (feed : Option FeedState) (clash : Option Stamp) (es : List Edit) (bytes : List ℕ) (r : Told) → is_some clash ≡ true
+    → CameInto es feed clash
     → IfOk r (λ fault. (more : List Edit) × (world : Option ℕ) × ReadsFile (world_in feed) bytes more fault world)
     → IfOk r (λ fault. (more : List Edit) × ReadsFile (world_in feed) bytes more fault (world_in feed) × CameInto (es ++ more) feed clash)
 read_behind feed clash es bytes (Err e) some came file = tt
 read_behind None None es bytes (Ok fault) some came file = absurd cc
 read_behind None (Some s) es bytes (Ok fault) some came file = absurd (let no : Some s ≡ None = came.1 in cc)
 read_behind (Some f) None es bytes (Ok fault) some came file = absurd cc
-read_behind (Some f) (Some s) es bytes (Ok fault) some came file = (file.0, file_of f.document.world bytes file.0 fault file.1 file.2, clash_stays es file.0 s came)
+read_behind (Some f) (Some s) es bytes (Ok fault) some came file =
+    (file.0, file_of f.document.world bytes file.0 fault file.1 file.2, clash_stays es file.0 s came)
 
 -- the first file, whose head is cut
-pub read_cut : (feed left : Option FeedState) (clash : Option Stamp) (es : List Edit) (bytes : List ℕ) (r : Told) → feed ≡ None → left ≡ None → length bytes < 12 → CameInto es feed clash
+pub read_cut : (feed left : Option FeedState) (clash : Option Stamp) (es : List Edit) (bytes : List ℕ) (r : Told) → feed ≡ None
+    → left ≡ None → length bytes < 12 → CameInto es feed clash
     → IfOk r (λ fault. (more : List Edit) × (world : Option ℕ) × ReadsFile None bytes more fault world)
     → IfOk r (λ fault. (more : List Edit) × ReadsFile (world_in feed) bytes more fault (world_in left) × CameInto (es ++ more) left clash)
 read_cut (Some f) left clash es bytes r none gone short came file = absurd cc
@@ -160,18 +167,21 @@ read_cut None None clash es bytes (Ok fault) none gone short came file =
     (file.0, cut.0, (ap (λ z. z ++ file.0) came.0 ∙ cut.1, came.1))
 
 -- the edits of a file fit
-read_fits : (w : ℕ) (bytes : List ℕ) (es : List Edit) (fault : Option EditFileError) → ReadsFile (Some w) bytes es fault (Some w) → AllFit es
+read_fits : (w : ℕ) (bytes : List ℕ) (es : List Edit) (fault : Option EditFileError) → ReadsFile (Some w) bytes es fault (Some w)
+    → AllFit es
 read_fits w bytes es (Some e) file = file_fits (Some w) bytes es (Err e) file
 read_fits w bytes es None file = file_fits (Some w) bytes es (Ok file.0) file.2
 
 -- a document that took all edits isn't stale
-pub came_sound : (feed : Option FeedState) (es : List Edit) (clash : Option Stamp) → CameInto es feed clash → clash ≡ None → IfSome feed (λ f. f.document.is_stale ≡ false)
+pub came_sound : (feed : Option FeedState) (es : List Edit) (clash : Option Stamp) → CameInto es feed clash → clash ≡ None
+    → IfSome feed (λ f. f.document.is_stale ≡ false)
 came_sound None es clash came none = tt
 came_sound (Some f) es None came none = came.0
 came_sound (Some f) es (Some s) came none = absurd (let no : Some s ≡ None = none in cc)
 
 abbrev pub IsFresh : List ℕ → FeedState → Type 0
-IsFresh bytes f = (12 ≤ length bytes) × (f.document.world ≡ little_number 8 (drop 4 bytes)) × (f.document.edits ≡ []) × (f.document.is_stale ≡ false)
+IsFresh bytes f =
+    (12 ≤ length bytes) × (f.document.world ≡ little_number 8 (drop 4 bytes)) × (f.document.edits ≡ []) × (f.document.is_stale ≡ false)
 
 -- the document of the first file has no edits
 pub begun_first : (ahead : Option ℕ) (bytes : List ℕ) (feed : Option FeedState) → world_in feed ≡ ahead → CameInto [] feed None
@@ -183,14 +193,16 @@ begun_first (Some w) bytes (Some f) world came some =
     (some.0, same ∙ some.1, came.1.1, came.0)
 
 -- and is there, if the head isn't cut
-pub begun_none : (ahead : Option ℕ) (bytes : List ℕ) (old feed : Option FeedState) → old ≡ None → world_in feed ≡ ahead → IfNone ahead (length bytes < 12)
+pub begun_none : (ahead : Option ℕ) (bytes : List ℕ) (old feed : Option FeedState) → old ≡ None → world_in feed ≡ ahead
+    → IfNone ahead (length bytes < 12)
     → IfNone feed ((old ≡ None) × (length bytes < 12))
 begun_none ahead bytes old (Some f) none world short = tt
 begun_none None bytes old None none world short = (none, short)
 begun_none (Some w) bytes old None none world short = absurd (let no : None ≡ Some w = world in cc)
 
 -- nor is the one that the next file goes into
-pub next_sound : (old feed : Option FeedState) (f : FeedState) (bytes : List ℕ) → IfSome old (λ f. f.document.is_stale ≡ false) → feed ≡ Some f → IfSome old (λ o. feed ≡ Some o)
+pub next_sound : (old feed : Option FeedState) (f : FeedState) (bytes : List ℕ) → IfSome old (λ f. f.document.is_stale ≡ false)
+    → feed ≡ Some f → IfSome old (λ o. feed ≡ Some o)
     → (old ≡ None → IfSome feed (IsFresh bytes)) → f.document.is_stale ≡ false
 next_sound (Some o) feed f bytes sound is same first =
     let one : f ≡ o = (let both : Some f ≡ Some o = sym is ∙ same in cc) in
@@ -207,8 +219,10 @@ next_wants (Some o) feed f bytes (Err e) is same wants =
     subst (λ (x : FeedState). WantsMemory (Some x.document.world) bytes) one wants
 
 -- the next file was read into the document
-pub read_next : DeliveriesGoOn → DeliveriesComeToSets → (old feed new : Option FeedState) (f : FeedState) (was clash : Option Stamp) (es : List Edit) (bytes : List ℕ) (r : Told)
-    → AllFit es → was ≡ None → CameInto es old was → feed ≡ Some f → IfSome old (λ o. feed ≡ Some o) → (old ≡ None → IfSome feed (IsFresh bytes))
+pub read_next : DeliveriesGoOn → DeliveriesComeToSets
+    → (old feed new : Option FeedState) (f : FeedState) (was clash : Option Stamp) (es : List Edit) (bytes : List ℕ) (r : Told)
+    → AllFit es → was ≡ None → CameInto es old was → feed ≡ Some f → IfSome old (λ o. feed ≡ Some o)
+    → (old ≡ None → IfSome feed (IsFresh bytes))
     → IfOk r (λ fault. (more : List Edit) × ReadsFile (Some f.document.world) bytes more fault (Some f.document.world) × IsSomeAnd new (TookInto f.document more clash))
     → IfOk r (λ fault. (more : List Edit) × ReadsFile (world_in old) bytes more fault (world_in new) × CameInto (es ++ more) new clash)
 read_next law sets old feed new f was clash es bytes (Err e) fit none came is same first took = tt
@@ -218,7 +232,8 @@ read_next law sets (Some o) feed (Some g) f was clash es bytes (Ok fault) fit no
     let file = took.1 in
     let all : TookInto f.document more clash g = took.2 in
     let one : f ≡ o = (let both : Some f ≡ Some o = sym is ∙ same in cc) in
-    let here : CameTo es f.document None = subst (λ (x : FeedState). CameTo es x.document None) (sym one) (subst (CameTo es o.document) none came) in (
+    let here : CameTo es f.document None =
+    subst (λ (x : FeedState). CameTo es x.document None) (sym one) (subst (CameTo es o.document) none came) in (
       more,
       subst (λ (x : FeedState). ReadsFile (Some x.document.world) bytes more fault (Some g.document.world)) one (subst (λ w. ReadsFile (Some f.document.world) bytes more fault (Some w)) (sym all.0) file),
       more_came law sets f.document g.document es more clash fit (read_fits f.document.world bytes more fault file) all.0 all.1 all.2 here,

@@ -88,22 +88,26 @@ pub none_yet : {H : Type 0} (faults failed : H → ℕ) (host : H) → NoneForgo
 none_yet faults failed host = (omega arith, omega arith)
 
 -- calls that didn't fail
-pub unfailed : {H : Type 0} (faults failed : H → ℕ) (old new : H) → faults new ≡ faults old → failed new ≡ failed old → NoneForgotten faults failed old new
+pub unfailed : {H : Type 0} (faults failed : H → ℕ) (old new : H) → faults new ≡ faults old → failed new ≡ failed old
+    → NoneForgotten faults failed old new
 unfailed faults failed old new calm uncounted = (omega (arith, calm), omega (arith, uncounted))
 
 -- none of some calls, nor of those after them
-pub none_later : {H : Type 0} (faults failed : H → ℕ) (old middle new : H) → NoneForgotten faults failed old middle → NoneForgotten faults failed middle new
+pub none_later : {H : Type 0} (faults failed : H → ℕ) (old middle new : H) → NoneForgotten faults failed old middle
+    → NoneForgotten faults failed middle new
     → NoneForgotten faults failed old new
 none_later faults failed old middle new (f, n) (g, m) = (omega (arith, f, g), omega (arith, n, m))
 
 -- what `?` hands on of a call, before which nothing was done
-pub handed_on : {H X : Type 0} (faults failed : H → ℕ) (answer : Result X Refusal) (e : Refusal) (old new : H) → IsErrAnd answer (λ told. told ≡ e)
+pub handed_on : {H X : Type 0} (faults failed : H → ℕ) (answer : Result X Refusal) (e : Refusal) (old new : H)
+    → IsErrAnd answer (λ told. told ≡ e)
     → NoneForgotten faults failed old new × (e ≡ File → Rose (failed old) (failed new)) → TellsFailures faults failed answer old new
 handed_on faults failed (Ok x) e old new told tells = absurd told
 handed_on faults failed (Err x) e old new told tells = (tells.0, λ is. tells.1 (sym told ∙ is))
 
 -- or after some calls
-pub handed_later : {H X : Type 0} (faults failed : H → ℕ) (answer : Result X Refusal) (e : Refusal) (old middle new : H) → IsErrAnd answer (λ told. told ≡ e)
+pub handed_later : {H X : Type 0} (faults failed : H → ℕ) (answer : Result X Refusal) (e : Refusal) (old middle new : H)
+    → IsErrAnd answer (λ told. told ≡ e)
     → NoneForgotten faults failed old middle → NoneForgotten faults failed middle new × (e ≡ File → Rose (failed middle) (failed new))
     → TellsFailures faults failed answer old new
 handed_later faults failed answer e old middle new told before tells =
@@ -111,7 +115,8 @@ handed_later faults failed answer e old middle new told before tells =
     (none_later faults failed old middle new before tells.0, λ is. rose_later (failed old) (failed middle) (failed new) before.1 (tells.1 is))
 
 -- what it hands on that isn't of the host
-pub other_on : {H X : Type 0} (faults failed : H → ℕ) (answer : Result X Refusal) (e : Refusal) (old new : H) → IsErrAnd answer (λ told. told ≡ e) → (e ≡ File → ⊥)
+pub other_on : {H X : Type 0} (faults failed : H → ℕ) (answer : Result X Refusal) (e : Refusal) (old new : H)
+    → IsErrAnd answer (λ told. told ≡ e) → (e ≡ File → ⊥)
     → NoneForgotten faults failed old new → TellsFailures faults failed answer old new
 other_on faults failed answer e old new told other none = handed_on faults failed answer e old new told (none, λ is. absurd (other is))
 
@@ -127,8 +132,10 @@ other_tells faults failed P Q (Ok x) old new none match other = (none, tt)
 other_tells faults failed P Q (Err e) old new none match other = (none, λ is. absurd (is_other (Q e) e match (other e) is))
 
 -- the answer of a write, after some calls
-pub write_tells : {H X : Type 0} (faults failed : H → ℕ) (answer : Result X Refusal) (old middle new : H) → NoneForgotten faults failed old middle
-    → Counts (is_err answer) (faults middle) (faults new) → Counts (is_err answer) (failed middle) (failed new) → TellsFailures faults failed answer old new
+pub write_tells : {H X : Type 0} (faults failed : H → ℕ) (answer : Result X Refusal) (old middle new : H)
+    → NoneForgotten faults failed old middle
+    → Counts (is_err answer) (faults middle) (faults new) → Counts (is_err answer) (failed middle) (failed new)
+    → TellsFailures faults failed answer old new
 write_tells faults failed (Ok x) old middle new (f, n) fault count = ((omega (arith, f, fault), omega (arith, n, count)), tt)
 write_tells faults failed (Err e) old middle new (f, n) fault count = (
   (let more = fault.0 in omega (arith, f, more), let more = count.0 in omega (arith, n, more)),

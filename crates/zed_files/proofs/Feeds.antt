@@ -28,7 +28,8 @@ no_clash (file.BadEdit c) s is = cc
 no_clash file.CutShort s is = cc
 
 -- a clash
-pub put_clash : (d : Replica) (es : List Edit) (q : Progress) (e : LinkError) (s : Stamp) (left : List Edit) → e ≡ link.Clash s → TakesPiece d es q (Err e) left
+pub put_clash : (d : Replica) (es : List Edit) (q : Progress) (e : LinkError) (s : Stamp) (left : List Edit) → e ≡ link.Clash s
+    → TakesPiece d es q (Err e) left
     → DeliversEach d es (Err (document.Clash s)) left
 put_clash d es q e s left is (inl (inl memory)) = absurd (let no : link.Clash s ≡ link.Memory = sym is ∙ memory.0 in cc)
 put_clash d es q e s left is (inl (inr clash)) =
@@ -38,7 +39,8 @@ put_clash d es q e s left is (inl (inr clash)) =
 put_clash d es q e s left is (inr fault) = absurd (no_clash fault.0 s (sym is ∙ fault.1))
 
 -- a fault of the file, behind all edits before it
-pub put_fault : (d : Replica) (es : List Edit) (q : Progress) (e : LinkError) (left : List Edit) → e ≢ link.Memory → ((s : Stamp) → e ≢ link.Clash s) → TakesPiece d es q (Err e) left
+pub put_fault : (d : Replica) (es : List Edit) (q : Progress) (e : LinkError) (left : List Edit) → e ≢ link.Memory
+    → ((s : Stamp) → e ≢ link.Clash s) → TakesPiece d es q (Err e) left
     → DeliversEach d es (Ok tt) left
 put_fault d es q e left memory clash (inl (inl lack)) = absurd (memory lack.0)
 put_fault d es q e left memory clash (inl (inr two)) = absurd (clash two.0 two.1)
@@ -50,7 +52,8 @@ Tells r e = MatchResult r
     (λ clash. MatchOption clash ((e ≢ link.Memory) × ((s : Stamp) → e ≢ link.Clash s)) (λ s. e ≡ link.Clash s))
     (λ x. (x ≡ refusal.Memory) × (e ≡ link.Memory))
 
-pub put_refused : (d : Replica) (bytes : List ℕ) (p q : Progress) (e : LinkError) (left : List Edit) (r : Result (Option Stamp) Refusal) → Tells r e
+pub put_refused : (d : Replica) (bytes : List ℕ) (p q : Progress) (e : LinkError) (left : List Edit) (r : Result (Option Stamp) Refusal)
+    → Tells r e
     → (es : List Edit) × Feeds bytes [] es p q × TakesPiece d es q (Err e) left
     → IfOk r (λ clash. (es : List Edit) × Feeds bytes [] es p q × DeliversEach d es (unless_clash clash) left)
 put_refused d bytes p q e left (Err x) told k = tt
@@ -58,7 +61,8 @@ put_refused d bytes p q e left (Ok None) told k = (k.0, k.1, put_fault d k.0 q e
 put_refused d bytes p q e left (Ok (Some s)) told k = (k.0, k.1, put_clash d k.0 q e s left told k.2)
 
 -- memory ran out
-pub put_lacks : (d : Replica) (bytes : List ℕ) (p q : Progress) (e : LinkError) (left : List Edit) (r : Result (Option Stamp) Refusal) → Tells r e
+pub put_lacks : (d : Replica) (bytes : List ℕ) (p q : Progress) (e : LinkError) (left : List Edit) (r : Result (Option Stamp) Refusal)
+    → Tells r e
     → (es : List Edit) × Feeds bytes [] es p q × TakesPiece d es q (Err e) left
     → OnErr r ((es : List Edit) × Feeds bytes [] es p q × TakesPiece d es q (Err link.Memory) left)
 put_lacks d bytes p q e left (Ok clash) told k = tt
@@ -74,7 +78,9 @@ answer e = Err e
 other_answer : (e f : LinkError) → e ≢ f → answer e ≢ answer f
 other_answer e f other same = other (let both : answer e ≡ answer f = same in cc)
 
-pub put_sound : (e : LinkError) (now was : Bool) (r : Result (Option Stamp) Refusal) → Tells r e → (answer e ≢ answer link.Memory → now ≡ was) → was ≡ false → OnOk r (now ≡ false)
+pub put_sound : (e : LinkError) (now was : Bool) (r : Result (Option Stamp) Refusal) → Tells r e
+    → (answer e ≢ answer link.Memory → now ≡ was) → was ≡ false
+    → OnOk r (now ≡ false)
 put_sound e now was (Err x) told stays sound = tt
 put_sound e now was (Ok None) told stays sound = stays (other_answer e link.Memory told.0) ∙ sound
 put_sound e now was (Ok (Some s)) told stays sound = stays (other_answer e link.Memory (λ lack. let no : link.Clash s ≡ link.Memory = sym told ∙ lack in cc)) ∙ sound

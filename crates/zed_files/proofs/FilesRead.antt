@@ -30,9 +30,11 @@ world_told q is = go q.fault q.world q.rest is
     go None None rest h = absurd (let no : Some CutShort ≡ None = h in cc)
     go None (Some n) rest h = (n, refl)
 
-ends_so : (asked : Option ℕ) (bytes : List ℕ) (es : List Edit) (q : Progress) (end : Option EditFileError) → Reads bytes es q → q.asked ≡ asked → q.fault ≢ Some Memory → ending q ≡ end
+ends_so : (asked : Option ℕ) (bytes : List ℕ) (es : List Edit) (q : Progress) (end : Option EditFileError) → Reads bytes es q
+    → q.asked ≡ asked → q.fault ≢ Some Memory → ending q ≡ end
     → ReadsFile asked bytes es end q.world
-ends_so asked bytes es q (Some e) reads asks calm is = record { progress = q; asks = asks; reads = reads; sound = calm; ends = sym (ap (λ o. end_by o q.world) is) }
+ends_so asked bytes es q (Some e) reads asks calm is =
+    record { progress = q; asks = asks; reads = reads; sound = calm; ends = sym (ap (λ o. end_by o q.world) is) }
 ends_so asked bytes es q None reads asks calm is =
     let told = world_told q is in (
       told.0,
@@ -44,7 +46,8 @@ memory_last : (q : Progress) → q.fault ≡ Some Memory → ending q ≡ Some M
 memory_last q f = rw f refl
 
 -- the bytes of a whole file were read, and its edits put into an empty list
-pub file_read : (asked : Option ℕ) (bytes : List ℕ) (old new : List Edit) (p q : Progress) (end : Option EditFileError) → old ≡ [] → Reads [] [] p → q.asked ≡ asked
+pub file_read : (asked : Option ℕ) (bytes : List ℕ) (old new : List Edit) (p q : Progress) (end : Option EditFileError) → old ≡ []
+    → Reads [] [] p → q.asked ≡ asked
     → Feeds bytes old new p q → verdict_of (ending q) ≡ verdict_of end → end ≢ Some Memory → ReadsFile asked bytes new end q.world
 file_read asked bytes old new p q end none start asks feeds told other =
     let is : ending q ≡ end = same_end (ending q) end told in
@@ -121,6 +124,8 @@ world_asked w bytes es n file =
     asked_world bytes es p w n file.reads file.asks (world_by (ending p) p.world n file.ends)
 
 -- a file of the world asked for
-pub file_of : (w : ℕ) (bytes : List ℕ) (es : List Edit) (end : Option EditFileError) (world : Option ℕ) → ReadsFile (Some w) bytes es end world → ReadsFile (Some w) bytes es end (Some w)
+pub file_of : (w : ℕ) (bytes : List ℕ) (es : List Edit) (end : Option EditFileError) (world : Option ℕ)
+    → ReadsFile (Some w) bytes es end world
+    → ReadsFile (Some w) bytes es end (Some w)
 file_of w bytes es (Some e) world file = file
 file_of w bytes es None world file = (file.0, ap (λ n. Some n) (sym (world_asked w bytes es file.0 file.2)), file.2)

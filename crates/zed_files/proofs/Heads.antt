@@ -22,7 +22,9 @@ any_head w bytes is =
     let own : not (w == little_number 8 (drop 4 bytes)) ≡ false = subst (λ n. not (w == n) ≡ false) is (same_other w) in
     rw own refl
 
-any_reads : (w : ℕ) (bytes : List ℕ) (es : List Edit) (p : Progress) → w ≡ little_number 8 (drop 4 bytes) → p.asked ≡ Some w → Reads bytes es p → Reads bytes es (record p { asked = None })
+any_reads : (w : ℕ) (bytes : List ℕ) (es : List Edit) (p : Progress) → w ≡ little_number 8 (drop 4 bytes) → p.asked ≡ Some w
+    → Reads bytes es p
+    → Reads bytes es (record p { asked = None })
 any_reads w bytes es p is asks (inl h) =
     inl (record { world = h.world; version = h.version; none = h.none; stop = any_head w bytes is ∙ subst (λ o. head_stop o bytes ≡ Some (stop_of p)) asks h.stop })
 any_reads w bytes es p is asks (inr h) =
@@ -39,7 +41,9 @@ any_reads w bytes es p is asks (inr h) =
       stop = h.stop;
     })
 
-any_file : (w : ℕ) (bytes : List ℕ) (es : List Edit) (end : Result ℕ EditFileError) → w ≡ little_number 8 (drop 4 bytes) → IsFile (Some w) bytes es end → IsFile None bytes es end
+any_file : (w : ℕ) (bytes : List ℕ) (es : List Edit) (end : Result ℕ EditFileError) → w ≡ little_number 8 (drop 4 bytes)
+    → IsFile (Some w) bytes es end
+    → IsFile None bytes es end
 any_file w bytes es end is file = record {
   progress = record file.progress { asked = None };
   asks = refl;
@@ -49,7 +53,9 @@ any_file w bytes es end is file = record {
 }
 
 -- the first file is of any world, where it is of the one that its head tells
-pub first_file : (w : ℕ) (bytes : List ℕ) (es : List Edit) (fault : Option EditFileError) → w ≡ little_number 8 (drop 4 bytes) → ReadsFile (Some w) bytes es fault (Some w) → ReadsFile None bytes es fault (Some w)
+pub first_file : (w : ℕ) (bytes : List ℕ) (es : List Edit) (fault : Option EditFileError) → w ≡ little_number 8 (drop 4 bytes)
+    → ReadsFile (Some w) bytes es fault (Some w)
+    → ReadsFile None bytes es fault (Some w)
 first_file w bytes es (Some e) is file = any_file w bytes es (Err e) is file
 first_file w bytes es None is file = (file.0, file.1, any_file w bytes es (Ok file.0) is file.2)
 
@@ -75,7 +81,8 @@ no_end None n is = let no : Ok n ≡ Err CutShort = is in cc
 no_end (Some e) n is = let no : Ok n ≡ Err e = is in cc
 
 -- a file whose head is cut
-pub cut_file : (bytes : List ℕ) (es : List Edit) (fault : Option EditFileError) (world : Option ℕ) → length bytes < 12 → ReadsFile None bytes es fault world
+pub cut_file : (bytes : List ℕ) (es : List Edit) (fault : Option EditFileError) (world : Option ℕ) → length bytes < 12
+    → ReadsFile None bytes es fault world
     → ReadsFile None bytes es fault None × (es ≡ [])
 cut_file bytes es (Some e) world short file = (file, (cut_reads bytes es file.progress short file.reads).0)
 cut_file bytes es None world short file = absurd (no_end (ending file.2.progress) file.0 (

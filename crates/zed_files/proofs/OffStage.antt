@@ -90,7 +90,8 @@ pub unread_off : (e : Refusal) → (e ≡ Memory) ⊎ (e ≡ File) → IsOffStag
 unread_off e why = elim why [ inl memory ↦ memory_off e memory | inr lost ↦ is_off e File lost (refl, refl) ]
 
 -- what `?` hands on
-pub off_on : {X : Type 0} (answer : Result X Refusal) (e : Refusal) → IsErrAnd answer (λ told. told ≡ e) → IsOffStage e → IfErr answer IsOffStage
+pub off_on : {X : Type 0} (answer : Result X Refusal) (e : Refusal) → IsErrAnd answer (λ told. told ≡ e) → IsOffStage e
+    → IfErr answer IsOffStage
 off_on (Ok x) e told off = absurd told
 off_on (Err x) e told off = is_off x e told off
 
@@ -100,7 +101,8 @@ written_off (Ok x) err = tt
 written_off (Err e) err = is_off e File err (refl, refl)
 
 -- an answer for want of memory, or of what is so refused
-pub made_off : {X : Type 0} (P : X → Type 0) (Q : Refusal → Type 0) (answer : Result X Refusal) → MatchResult answer P (λ e. (e ≡ Memory) ⊎ Q e)
+pub made_off : {X : Type 0} (P : X → Type 0) (Q : Refusal → Type 0) (answer : Result X Refusal)
+    → MatchResult answer P (λ e. (e ≡ Memory) ⊎ Q e)
     → ((e : Refusal) → Q e → IsOffStage e) → IfErr answer IsOffStage
 made_off P Q (Ok x) match off = tt
 made_off P Q (Err e) match off = elim match [ inl memory ↦ memory_off e memory | inr why ↦ off e why ]
@@ -112,11 +114,13 @@ pub uncounted : (told : Bool) (old new : ℕ) → told ≡ false → new ≡ old
 uncounted told old new off same = subst (λ b. Counts b old new) (sym off) same
 
 -- no call of a screen failed, and the refusal is of none
-pub screen_uncounted : {X : Type 0} (answer : Result X Refusal) (old new : ℕ) → IfErr answer IsOffStage → new ≡ old → Counts (is_screen_fault answer) old new
+pub screen_uncounted : {X : Type 0} (answer : Result X Refusal) (old new : ℕ) → IfErr answer IsOffStage → new ≡ old
+    → Counts (is_screen_fault answer) old new
 screen_uncounted (Ok x) old new off same = same
 screen_uncounted (Err e) old new off same = uncounted _ old new off.0 same
 
 -- the same of a source of keys
-pub keys_uncounted : {X : Type 0} (answer : Result X Refusal) (old new : ℕ) → IfErr answer IsOffStage → new ≡ old → Counts (is_key_fault answer) old new
+pub keys_uncounted : {X : Type 0} (answer : Result X Refusal) (old new : ℕ) → IfErr answer IsOffStage → new ≡ old
+    → Counts (is_key_fault answer) old new
 keys_uncounted (Ok x) old new off same = same
 keys_uncounted (Err e) old new off same = uncounted _ old new off.1 same

@@ -33,7 +33,8 @@ has_ended (Some f) is = refl
 has_ended None is = absurd cc
 
 -- where nothing is wrong with a file, the document is there
-pub read_whole_feed : (asked : Option ℕ) (bytes : List ℕ) (es : List Edit) (fault : Option EditFileError) (feed : Option FeedState) → fault ≡ None → ReadsFile asked bytes es fault (world_in feed)
+pub read_whole_feed : (asked : Option ℕ) (bytes : List ℕ) (es : List Edit) (fault : Option EditFileError) (feed : Option FeedState)
+    → fault ≡ None → ReadsFile asked bytes es fault (world_in feed)
     → is_some feed ≡ true
 read_whole_feed asked bytes es (Some e) feed none file = absurd (let no : Some e ≡ None = none in cc)
 read_whole_feed asked bytes es None feed none file = has_feed feed file.0 file.1
@@ -42,12 +43,15 @@ pub nothing_told : (refusal : Option Refusal) → refusal ≡ None → refusal �
 nothing_told refusal none is = let no : None ≡ Some Memory = sym none ∙ is in cc
 
 -- a file was read to its end, whatever that is
-some_end : (asked : Option ℕ) (bytes : List ℕ) (es : List Edit) (fault : Option EditFileError) (world : Option ℕ) → ReadsFile asked bytes es fault world
+some_end : (asked : Option ℕ) (bytes : List ℕ) (es : List Edit) (fault : Option EditFileError) (world : Option ℕ)
+    → ReadsFile asked bytes es fault world
     → (end : Result ℕ EditFileError) × IsFile asked bytes es end
 some_end asked bytes es (Some e) world file = (Err e, file)
 some_end asked bytes es None world file = (Ok file.0, file.2)
 
-its_fit : (asked : Option ℕ) (bytes : List ℕ) (es : List Edit) (fault : Option EditFileError) (world : Option ℕ) → ReadsFile asked bytes es fault world → AllFit es
+its_fit : (asked : Option ℕ) (bytes : List ℕ) (es : List Edit) (fault : Option EditFileError) (world : Option ℕ)
+    → ReadsFile asked bytes es fault world
+    → AllFit es
 its_fit asked bytes es fault world file = let end = some_end asked bytes es fault world file in file_fits asked bytes es end.0 end.1
 
 -- the document of a feed has the world that was told
@@ -62,8 +66,10 @@ abbrev answer : ℕ → List Edit → Result FileEdits Refusal
 answer w es = Ok (w, es)
 
 -- one file was read, and what came first is told, or the document
-pub opened : DeliveriesComeToSets → (asked : Option ℕ) (bytes : List ℕ) (feed : Option FeedState) (es : List Edit) (clash : Option Stamp) (fault : Option EditFileError) (result : Result Replica Refusal)
-    → ReadsFile asked bytes es fault (world_in feed) → CameInto es feed clash → refusal_in result ≡ first_refusal clash (option_map file_refusal fault) → IfOk result (IsOf feed)
+pub opened : DeliveriesComeToSets
+    → (asked : Option ℕ) (bytes : List ℕ) (feed : Option FeedState) (es : List Edit) (clash : Option Stamp) (fault : Option EditFileError) (result : Result Replica Refusal)
+    → ReadsFile asked bytes es fault (world_in feed) → CameInto es feed clash
+    → refusal_in result ≡ first_refusal clash (option_map file_refusal fault) → IfOk result (IsOf feed)
     → MatchResult result (λ d. IsOpened asked bytes (Ok (d.world, d.edits))) (λ e. (e ≡ Memory) ⊎ IsOpened asked bytes (Err e))
 opened law asked bytes feed es (Some s) fault (Ok d) file came is own = absurd cc
 opened law asked bytes None es (Some s) fault (Err e) file came is own = absurd (let no : Some s ≡ None = came.1 in cc)
@@ -84,7 +90,8 @@ opened law asked bytes feed es None None (Err e) file came is own = absurd cc
 
 -- of the world that was asked for
 pub opened_world : (asked : Option ℕ) (bytes : List ℕ) (feed : Option FeedState) (es : List Edit) (clash : Option Stamp) (fault : Option EditFileError) (result : Result Replica Refusal)
-    → ReadsFile asked bytes es fault (world_in feed) → refusal_in result ≡ first_refusal clash (option_map file_refusal fault) → IfOk result (IsOf feed)
+    → ReadsFile asked bytes es fault (world_in feed) → refusal_in result ≡ first_refusal clash (option_map file_refusal fault)
+    → IfOk result (IsOf feed)
     → IfOk result (λ d. (n : ℕ) → asked ≡ Some n → d.world ≡ n)
 opened_world asked bytes feed es clash fault (Err e) file is own = tt
 opened_world asked bytes feed es (Some s) fault (Ok d) file is own = absurd cc
@@ -94,7 +101,8 @@ opened_world asked bytes feed es None None (Ok d) file is own = λ n asks.
 
 -- it isn't stale
 pub opened_sound : (feed : Option FeedState) (es : List Edit) (clash : Option Stamp) (refusal : Option Refusal) (result : Result Replica Refusal)
-    → CameInto es feed clash → refusal_in result ≡ first_refusal clash refusal → IfOk result (IsOf feed) → IfOk result (λ d. d.is_stale ≡ false)
+    → CameInto es feed clash → refusal_in result ≡ first_refusal clash refusal → IfOk result (IsOf feed)
+    → IfOk result (λ d. d.is_stale ≡ false)
 opened_sound feed es clash refusal (Err e) came is own = tt
 opened_sound feed es (Some s) refusal (Ok d) came is own = absurd cc
 opened_sound feed es None refusal (Ok d) came is own =
@@ -104,14 +112,17 @@ opened_sound feed es None refusal (Ok d) came is own =
 -- ---- the file of a name
 
 -- a file that was read, and opened
-pub read_opens : (failed : Type 0) (t : HostContents) (asked : Option ℕ) (file bytes : List ℕ) (result : Result Replica Refusal) → file_in t file ≡ Some bytes
+pub read_opens : (failed : Type 0) (t : HostContents) (asked : Option ℕ) (file bytes : List ℕ) (result : Result Replica Refusal)
+    → file_in t file ≡ Some bytes
     → MatchResult result (λ d. IsOpened asked bytes (Ok (d.world, d.edits))) (λ e. (e ≡ Memory) ⊎ IsOpened asked bytes (Err e))
     → MatchResult result (λ d. OpensAs failed t asked file (Ok (d.world, d.edits))) (λ e. (e ≡ Memory) ⊎ OpensAs failed t asked file (Err e))
 read_opens failed t asked file bytes (Ok d) held opens = (Some bytes, inl (sym held), opens)
-read_opens failed t asked file bytes (Err e) held opens = elim opens [ inl memory ↦ inl memory | inr is ↦ inr (Some bytes, inl (sym held), is) ]
+read_opens failed t asked file bytes (Err e) held opens =
+    elim opens [ inl memory ↦ inl memory | inr is ↦ inr (Some bytes, inl (sym held), is) ]
 
 -- a file that was not read
-pub unread_opens : (failed : Type 0) (t : HostContents) (asked : Option ℕ) (file : List ℕ) (e : Refusal) → (e ≡ Memory) ⊎ (e ≡ File) → (e ≡ File → IsRead failed t file None)
+pub unread_opens : (failed : Type 0) (t : HostContents) (asked : Option ℕ) (file : List ℕ) (e : Refusal) → (e ≡ Memory) ⊎ (e ≡ File)
+    → (e ≡ File → IsRead failed t file None)
     → (e ≡ Memory) ⊎ OpensAs failed t asked file (Err e)
 unread_opens failed t asked file e why none =
     elim why [ inl memory ↦ inl memory | inr is ↦ inr (None, none is, ap (λ x. Err x) is) ]

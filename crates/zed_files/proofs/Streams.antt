@@ -32,11 +32,13 @@ last_file P asked bytes files all es more e first read file =
     read (edits_then more (Some (file_refusal e))) (subst (λ files. IsStream asked files (edits_then more (Some (file_refusal e)))) (sym first) here)
 
 -- a file that was read to its end, by what is wrong with it
-pub whole_file : (asked : Option ℕ) (bytes : List ℕ) (es : List Edit) (fault : Option EditFileError) (world : Option ℕ) → fault ≡ None → ReadsFile asked bytes es fault world
+pub whole_file : (asked : Option ℕ) (bytes : List ℕ) (es : List Edit) (fault : Option EditFileError) (world : Option ℕ) → fault ≡ None
+    → ReadsFile asked bytes es fault world
     → (n : ℕ) × (world ≡ Some n) × IsFile asked bytes es (Ok n)
 whole_file asked bytes es fault world none file = subst (λ f. ReadsFile asked bytes es f world) none file
 
-pub faulty_file : (asked : Option ℕ) (bytes : List ℕ) (es : List Edit) (fault : Option EditFileError) (world : Option ℕ) (e : EditFileError) → fault ≡ Some e → ReadsFile asked bytes es fault world
+pub faulty_file : (asked : Option ℕ) (bytes : List ℕ) (es : List Edit) (fault : Option EditFileError) (world : Option ℕ) (e : EditFileError)
+    → fault ≡ Some e → ReadsFile asked bytes es fault world
     → IsFile asked bytes es (Err e)
 faulty_file asked bytes es fault world e is file = subst (λ f. ReadsFile asked bytes es f world) is file
 
@@ -61,14 +63,16 @@ next_read failed t names i d read rest lt one others =
     (read, rest, one, subst (λ n. AreRead failed t (texts_of (drop n names)) rest) (add-one i) others, refl)
 
 -- the first file is there, if the next one is, and the first where that isn't the next one
-pub first_there : (t : HostContents) (names : List (Bor (List ℕ))) (i : ℕ) (d : Bor (List ℕ)) → i < length names → is_some (file_in t (get_or names i d).now) ≡ true
+pub first_there : (t : HostContents) (names : List (Bor (List ℕ))) (i : ℕ) (d : Bor (List ℕ)) → i < length names
+    → is_some (file_in t (get_or names i d).now) ≡ true
     → (0 < i → FirstIsThere t (texts_of names)) → FirstIsThere t (texts_of names)
 first_there t [] i d lt there before = absurd (omega (arith, lt))
 first_there t (name ∷ names) zero d lt there before = there
 first_there t (name ∷ names) (suc i) d lt there before = before (omega arith)
 
 -- no file is left
-pub none_left : (failed : Type 0) (t : HostContents) (names : List (Bor (List ℕ))) (i : ℕ) → length names ≤ i → AreRead failed t (texts_of (drop i names)) []
+pub none_left : (failed : Type 0) (t : HostContents) (names : List (Bor (List ℕ))) (i : ℕ) → length names ≤ i
+    → AreRead failed t (texts_of (drop i names)) []
 none_left failed t names i le = subst (λ ns. AreRead failed t (texts_of ns) []) (sym (drop_of_length-le names le)) refl
 
 -- a file was not read
@@ -82,15 +86,19 @@ unread_file P asked rest es refusal is read =
 pub all_read : (P : Stream → Type 0) (asked : Option ℕ) (all : List (Option (List ℕ))) (es : List Edit) (refusal : Option Refusal)
     → all ≡ [] → ((s : Stream) → IsStream asked all s → P (stream_after es s)) → refusal ≡ end_of asked → P (edits_then es refusal)
 all_read P asked all es refusal none read end =
-    let here : IsStream asked all (edits_then [] refusal) = subst (λ files. IsStream asked files (edits_then [] refusal)) (sym none) (ap (edits_then []) end) in
+    let here : IsStream asked all (edits_then [] refusal) =
+    subst (λ files. IsStream asked files (edits_then [] refusal)) (sym none) (ap (edits_then []) end) in
     subst (λ all. P (edits_then all refusal)) (append-nil es) (read (edits_then [] refusal) here)
 
 -- what comes first is the refusal of a file
-pub file_first : (failed : Type 0) (t : HostContents) (names : List (List ℕ)) (es : List Edit) (refusal : Option Refusal) (e : Refusal) → IsStreamIn failed t names (edits_then es refusal) → Agrees es
+pub file_first : (failed : Type 0) (t : HostContents) (names : List (List ℕ)) (es : List Edit) (refusal : Option Refusal) (e : Refusal)
+    → IsStreamIn failed t names (edits_then es refusal) → Agrees es
     → refusal ≡ Some e → Collects failed t names (Err e)
 file_first failed t names es refusal e reads agrees is = (edits_then es refusal, reads, inr (agrees, sym (ap (λ r. set_unless r es) is)))
 
 -- the set of all edits
-pub all_collected : (failed : Type 0) (t : HostContents) (names : List (List ℕ)) (es set : List Edit) (refusal : Option Refusal) → IsStreamIn failed t names (edits_then es refusal) → Agrees es
+pub all_collected : (failed : Type 0) (t : HostContents) (names : List (List ℕ)) (es set : List Edit) (refusal : Option Refusal)
+    → IsStreamIn failed t names (edits_then es refusal) → Agrees es
     → refusal ≡ None → set ≡ set_of es → Collects failed t names (Ok set)
-all_collected failed t names es set refusal reads agrees is made = (edits_then es refusal, reads, inr (agrees, ap (λ x. Ok x) made ∙ sym (ap (λ r. set_unless r es) is)))
+all_collected failed t names es set refusal reads agrees is made =
+    (edits_then es refusal, reads, inr (agrees, ap (λ x. Ok x) made ∙ sym (ap (λ r. set_unless r es) is)))

@@ -54,7 +54,8 @@ head_ample asked bytes =
     (choice (ltb (length bytes) 12) _ _ (waiting bytes) (choice (is_other asked (little_number 8 (drop 4 bytes))) _ _ (failing OtherWorld (λ h. cc)) nowhere))))
 
 -- nor a record whose length isn't there or isn't good
-long_enough : (a b : Bool) (bytes : List ℕ) (rest : Option Stop) (s : Stop) → ltb (length bytes) 4 ≡ a → is_length (little_number 4 bytes) ≡ b
+long_enough : (a b : Bool) (bytes : List ℕ) (rest : Option Stop) (s : Stop) → ltb (length bytes) 4 ≡ a
+    → is_length (little_number 4 bytes) ≡ b
     → cond a (waits bytes) (cond (not b) (fails RecordLength) rest) ≡ Some s → s.fault ≡ Some Memory → HasLength bytes
 long_enough true b bytes rest s short good is lack = absurd (waiting bytes s is lack)
 long_enough false false bytes rest s short good is lack = absurd (failing RecordLength (λ h. cc) s is lack)
@@ -127,7 +128,9 @@ no_edits : (front : List Edit) (e : Edit) (rest : List Edit) → [] ≡ front ++
 no_edits [] e rest is = let no : [] ≡ e ∷ rest = is in cc
 no_edits (f ∷ front) e rest is = let no : [] ≡ f ∷ (front ++ e ∷ rest) = is in cc
 
-pub edit_wants : (bytes : List ℕ) (es : List Edit) (q : Progress) (front : List Edit) (e : Edit) (rest : List Edit) → Reads bytes es q → es ≡ front ++ e ∷ rest → WantsMemory q.asked bytes
+pub edit_wants : (bytes : List ℕ) (es : List Edit) (q : Progress) (front : List Edit) (e : Edit) (rest : List Edit) → Reads bytes es q
+    → es ≡ front ++ e ∷ rest
+    → WantsMemory q.asked bytes
 edit_wants bytes es q front e rest (inl h) is = absurd (no_edits front e rest (sym h.none ∙ is))
 edit_wants bytes es q front e rest (inr h) is =
     let good : AreRecords (front ++ e ∷ rest) = subst AreRecords is h.good in
@@ -142,7 +145,9 @@ edit_wants bytes es q front e rest (inr h) is =
       asked_for = h.asked;
       good = records_front front (e ∷ rest) good;
       spelled = spelled_front q.version front (e ∷ rest) (subst (AreOf q.version) is h.spelled);
-      whole = h.whole ∙ ap (λ z. text_of q.version h.number z ++ h.tail) is ∙ append_assoc head (flat_map record_text (front ++ e ∷ rest)) h.tail
+      whole =
+          h.whole ∙ ap (λ z. text_of q.version h.number z ++ h.tail) is
+          ∙ append_assoc head (flat_map record_text (front ++ e ∷ rest)) h.tail
           ∙ ap (λ z. head ++ z) (parts front e rest h.tail) ∙ sym (append_assoc head (flat_map record_text front) tail);
       long = record_length e (flat_map record_text rest ++ h.tail) (record_behind front e rest good);
     }
@@ -158,7 +163,9 @@ lacked RecordLength is = absurd cc
 lacked (BadEdit c) is = absurd cc
 lacked CutShort is = absurd cc
 
-feed_took : (d : Replica) (bytes : List ℕ) (es : List Edit) (q : Progress) (left : List Edit) → Reads bytes es q → TakesPiece d es q (Err link.Memory) left → WantsMemory q.asked bytes
+feed_took : (d : Replica) (bytes : List ℕ) (es : List Edit) (q : Progress) (left : List Edit) → Reads bytes es q
+    → TakesPiece d es q (Err link.Memory) left
+    → WantsMemory q.asked bytes
 feed_took d bytes es q left reads (inl (inl lack)) = let one = lack.1 in edit_wants bytes es q one.0 one.1 one.2 reads one.3
 feed_took d bytes es q left reads (inl (inr clash)) = absurd (let no : link.Memory ≡ link.Clash clash.0 = clash.1 in cc)
 feed_took d bytes es q left reads (inr fault) = reader_wants bytes es q reads (fault.2 ∙ ap (λ x. Some x) (lacked fault.0 fault.1))
@@ -171,7 +178,8 @@ feed_wants asked d bytes p q left start asks (es, feeds, took) =
 
 -- ---- a reader at the end of a file
 
-end_lacks : (f : Option EditFileError) (w : Option ℕ) (rest : List ℕ) → verdict_of (ending_by f w rest) ≡ verdict_of (Some Memory) → f ≡ Some Memory
+end_lacks : (f : Option EditFileError) (w : Option ℕ) (rest : List ℕ) → verdict_of (ending_by f w rest) ≡ verdict_of (Some Memory)
+    → f ≡ Some Memory
 end_lacks (Some e) w rest is =
     let one : verdict_of (Some e) ≡ verdict_of (Some Memory) = is in
     let same : e ≡ Memory = cc in
@@ -181,7 +189,8 @@ end_lacks None (Some n) [] is = absurd (let no : verdict_of None ≡ verdict_of 
 end_lacks None (Some n) (b ∷ rest) is = absurd (let no : verdict_of (Some CutShort) ≡ verdict_of (Some Memory) = is in cc)
 
 -- what it was fed is the whole file
-pub end_wants : (asked : Option ℕ) (bytes : List ℕ) (old new : List Edit) (p q : Progress) (end : Result (Unit {0}) EditFileError) → Reads [] [] p → q.asked ≡ asked → Feeds bytes old new p q
+pub end_wants : (asked : Option ℕ) (bytes : List ℕ) (old new : List Edit) (p q : Progress) (end : Result (Unit {0}) EditFileError)
+    → Reads [] [] p → q.asked ≡ asked → Feeds bytes old new p q
     → end ≡ verdict_of (ending q) → end ≡ Err Memory → WantsMemory asked bytes
 end_wants asked bytes old new p q end start asks feeds is lack =
     subst (λ o. WantsMemory o bytes) asks (reader_wants bytes feeds.edits q (feeds.reads [] [] start) (end_lacks q.fault q.world q.rest (sym is ∙ lack)))

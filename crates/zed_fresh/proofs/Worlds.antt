@@ -58,7 +58,8 @@ fresh_is_normal name = record {
 }
 
 -- so can one that is made of its parts
-pub made_is_normal : (name : List ℕ) (h : Header) (bs : List BoardData) (b : BoardData) → h ≡ fresh_header name → bs ≡ [] ++ b ∷ [] → b ≡ title_of new_table
+pub made_is_normal : (name : List ℕ) (h : Header) (bs : List BoardData) (b : BoardData) → h ≡ fresh_header name → bs ≡ [] ++ b ∷ []
+    → b ≡ title_of new_table
     → HasNormalParts (record { header = h; boards = bs })
 made_is_normal name h bs b is boards title =
     let make : Header → List BoardData → Contents = λ h bs. record { header = h; boards = bs } in

@@ -23,17 +23,20 @@ first-assoc None b c = refl
 first-assoc (Some x) b c = refl
 
 -- one more edit is found where there is none of its stamp
-pub found-with_edit : (s : Stamp) (e : Edit) (es : List Edit) → IsRising es → edit_with s (with_edit e es) ≡ first_of (edit_with s es) (edit_with s (e ∷ []))
+pub found-with_edit : (s : Stamp) (e : Edit) (es : List Edit) → IsRising es
+    → edit_with s (with_edit e es) ≡ first_of (edit_with s es) (edit_with s (e ∷ []))
 found-with_edit s e [] r = refl
 found-with_edit s e (f ∷ fs) r =
     go (before e.stamp f.stamp) (same_stamp e.stamp f.stamp) (same_stamp e.stamp s) (same_stamp f.stamp s) refl refl refl refl (found-with_edit s e fs r.1)
   where
-    go : (p q t u : Bool) → before e.stamp f.stamp ≡ p → same_stamp e.stamp f.stamp ≡ q → same_stamp e.stamp s ≡ t → same_stamp f.stamp s ≡ u
+    go : (p q t u : Bool) → before e.stamp f.stamp ≡ p → same_stamp e.stamp f.stamp ≡ q → same_stamp e.stamp s ≡ t
+        → same_stamp f.stamp s ≡ u
         → edit_with s (with_edit e fs) ≡ first_of (edit_with s fs) (edit_with s (e ∷ []))
         → edit_with s (with_edit e (f ∷ fs)) ≡ first_of (edit_with s (f ∷ fs)) (edit_with s (e ∷ []))
     go true q true u hp hq ht hu more =
         let above : AllAbove e.stamp (f ∷ fs) = (hp, above-later e.stamp f.stamp fs hp r.0) in
-        let none : edit_with s (f ∷ fs) ≡ None = subst (λ k. edit_with k (f ∷ fs) ≡ None) (same_stamp-true e.stamp s ht) (edit_with-none e.stamp (f ∷ fs) above) in
+        let none : edit_with s (f ∷ fs) ≡ None =
+        subst (λ k. edit_with k (f ∷ fs) ≡ None) (same_stamp-true e.stamp s ht) (edit_with-none e.stamp (f ∷ fs) above) in
         rw (hp, none, ht) refl
     go true q false u hp hq ht hu more = rw (hp, ht) (sym (first-none (edit_with s (f ∷ fs))))
     go false true true u hp hq ht hu more =
@@ -44,7 +47,8 @@ found-with_edit s e (f ∷ fs) r =
     go false false t false hp hq ht hu more = rw (hp, hq, hu) more
 
 -- of two logs in one the first has its own where both have a stamp
-pub found-union : EditKeepsRising → (s : Stamp) (es fs : List Edit) → IsRising es → edit_with s (union es fs) ≡ first_of (edit_with s es) (edit_with s fs)
+pub found-union : EditKeepsRising → (s : Stamp) (es fs : List Edit) → IsRising es
+    → edit_with s (union es fs) ≡ first_of (edit_with s es) (edit_with s fs)
 found-union rises s es [] r = sym (first-none (edit_with s es))
 found-union rises s es (f ∷ fs) r =
     found-union rises s (with_edit f es) fs (rises f es r)
@@ -60,5 +64,6 @@ there_too : (es fs : List Edit) → IsRising es → ((s : Stamp) → edit_with s
 there_too es fs r same e m = (edit_with-stands e.stamp fs e (sym (same e.stamp) ∙ edit_with-there es e r m)).0
 
 -- rising logs in which the same is found are equal
-pub rising-found : RisingIsItsEdits → (es fs : List Edit) → IsRising es → IsRising fs → ((s : Stamp) → edit_with s es ≡ edit_with s fs) → es ≡ fs
+pub rising-found : RisingIsItsEdits → (es fs : List Edit) → IsRising es → IsRising fs → ((s : Stamp) → edit_with s es ≡ edit_with s fs)
+    → es ≡ fs
 rising-found known es fs r q same = known es fs r q (λ e. (there_too es fs r same e, there_too fs es q (λ s. sym (same s)) e))

@@ -30,7 +30,8 @@ with_edit-front f [] [] a = refl
 with_edit-front f [] (g ∷ high) a = rw a.0
 with_edit-front f (x ∷ low) high a = go (before f.stamp x.stamp) (same_stamp f.stamp x.stamp) refl refl (with_edit-front f low high a)
   where
-    go : (p q : Bool) → before f.stamp x.stamp ≡ p → same_stamp f.stamp x.stamp ≡ q → with_edit f (low ++ high) ≡ with_edit f low ++ high → with_edit f ((x ∷ low) ++ high) ≡ with_edit f (x ∷ low) ++ high
+    go : (p q : Bool) → before f.stamp x.stamp ≡ p → same_stamp f.stamp x.stamp ≡ q → with_edit f (low ++ high) ≡ with_edit f low ++ high
+        → with_edit f ((x ∷ low) ++ high) ≡ with_edit f (x ∷ low) ++ high
     go true q hp hq more = rw hp refl
     go false true hp hq more = rw (hp, hq) refl
     go false false hp hq more = rw (hp, hq) (ap (λ zs. x ∷ zs) more)
@@ -82,10 +83,12 @@ new-front low high (f ∷ fs) n = (none-front f.stamp low high n.0, new-front lo
 
 -- ---- the end of a log
 
-all-below : (s : Stamp) (es : List Edit) → IsRising es → IfSome (slice_get es (length es - 1)) (λ f. before f.stamp s ≡ true) → AllBelow s es
+all-below : (s : Stamp) (es : List Edit) → IsRising es → IfSome (slice_get es (length es - 1)) (λ f. before f.stamp s ≡ true)
+    → AllBelow s es
 all-below s es r h = subst (AllBelow s) (take_all (length es) es (omega arith)) (below-take s es (length es) r (λ _. h) (omega arith))
 
-pub latest : (b : Bool) (s : Stamp) (es : List Edit) (e : Edit) → IsRising es → slice_get es (length es - 1) ≡ Some e → b ≡ before e.stamp s → OnTrue b (AllBelow s es)
+pub latest : (b : Bool) (s : Stamp) (es : List Edit) (e : Edit) → IsRising es → slice_get es (length es - 1) ≡ Some e → b ≡ before e.stamp s
+    → OnTrue b (AllBelow s es)
 latest true s es e r at is = all-below s es r (rw at (sym is))
 latest false s es e r at is = tt
 
@@ -343,7 +346,8 @@ pub still-new : (e : Edit) (log fs : List Edit) → IsRising log → AreNew log 
 still-new e log [] r n none = tt
 still-new e log (f ∷ fs) r n none = go (same_stamp f.stamp e.stamp) refl (λ k. still-new e log fs r n.1 k)
   where
-    go : (b : Bool) → same_stamp f.stamp e.stamp ≡ b → (edit_with e.stamp fs ≡ None → AreNew (with_edit e log) fs) → AreNew (with_edit e log) (f ∷ fs)
+    go : (b : Bool) → same_stamp f.stamp e.stamp ≡ b → (edit_with e.stamp fs ≡ None → AreNew (with_edit e log) fs)
+        → AreNew (with_edit e log) (f ∷ fs)
     go true q more = absurd (let bad : Some f ≡ None = rw q at none in cc)
     go false q more = (
       found-with_edit f.stamp e log r ∙ ap (λ o. first_of o (edit_with f.stamp (e ∷ []))) n.0 ∙ another-stamp e f q,

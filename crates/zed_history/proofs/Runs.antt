@@ -37,12 +37,14 @@ found-joined laws s [] a = refl
 found-joined laws s (r ∷ rs) a = found-union laws.rises s r (joined rs) a.0 ∙ ap (first_of (edit_with s r)) (found-joined laws s rs a.2)
 
 -- an edit is found in all of them where it is found in one
-pub found-whole : SetsHold → (s : Stamp) (rs : Runs) (whole : List Edit) → AreRuns rs → joined rs ≡ whole → edit_with s whole ≡ found_in s rs
+pub found-whole : SetsHold → (s : Stamp) (rs : Runs) (whole : List Edit) → AreRuns rs → joined rs ≡ whole
+    → edit_with s whole ≡ found_in s rs
 found-whole laws s rs whole a is = sym (ap (edit_with s) is) ∙ found-joined laws s rs a
 
 pub found-append : (s : Stamp) (rs qs : Runs) → found_in s (rs ++ qs) ≡ first_of (found_in s rs) (found_in s qs)
 found-append s [] qs = refl
-found-append s (r ∷ rs) qs = ap (first_of (edit_with s r)) (found-append s rs qs) ∙ sym (first-assoc (edit_with s r) (found_in s rs) (found_in s qs))
+found-append s (r ∷ rs) qs =
+    ap (first_of (edit_with s r)) (found-append s rs qs) ∙ sym (first-assoc (edit_with s r) (found_in s rs) (found_in s qs))
 
 -- runs in which the same is found are the same together
 pub runs-same : SetsHold → (rs qs : Runs) → AreRuns rs → AreRuns qs → ((s : Stamp) → found_in s rs ≡ found_in s qs) → joined rs ≡ joined qs
@@ -50,7 +52,9 @@ runs-same laws rs qs a b same =
     rising-found laws.known (joined rs) (joined qs) (runs-rise laws rs a) (runs-rise laws qs b) (λ s. found-joined laws s rs a ∙ same s ∙ sym (found-joined laws s qs b))
 
 -- runs in which one more edit is found have that edit together
-pub joined-more : SetsHold → (e : Edit) (rs qs : Runs) → AreRuns rs → AreRuns qs → ((s : Stamp) → found_in s qs ≡ first_of (found_in s rs) (edit_with s (e ∷ []))) → joined qs ≡ with_edit e (joined rs)
+pub joined-more : SetsHold → (e : Edit) (rs qs : Runs) → AreRuns rs → AreRuns qs
+    → ((s : Stamp) → found_in s qs ≡ first_of (found_in s rs) (edit_with s (e ∷ [])))
+    → joined qs ≡ with_edit e (joined rs)
 joined-more laws e rs qs a b more =
     rising-found laws.known (joined qs) (with_edit e (joined rs)) (runs-rise laws qs b) (laws.rises e (joined rs) (runs-rise laws rs a)) same
   where
@@ -67,7 +71,8 @@ new-union : (r es fs : List Edit) → AreNew r es → AreNew r fs → AreNew r (
 new-union r es [] n m = n
 new-union r es (f ∷ fs) n m = new-union r (with_edit f es) fs (each-with_edit (λ (g : Edit). edit_with g.stamp r ≡ None) f es m.0 n) m.1
 
-all-merged : (r a b : List Edit) (front : Runs) → AllByRecursion (AreNew r) (front ++ a ∷ b ∷ []) → AllByRecursion (AreNew r) (front ++ union a b ∷ [])
+all-merged : (r a b : List Edit) (front : Runs) → AllByRecursion (AreNew r) (front ++ a ∷ b ∷ [])
+    → AllByRecursion (AreNew r) (front ++ union a b ∷ [])
 all-merged r a b [] n = let rest : AllByRecursion (AreNew r) (b ∷ []) = n.1 in (new-union r a b n.0 rest.0, tt)
 all-merged r a b (f ∷ front) n = (n.0, all-merged r a b front n.1)
 
@@ -94,19 +99,26 @@ last-two rs front a b is = ap (λ (qs : Runs). qs ++ b ∷ []) is ∙ append_ass
 pub last-pair : (rs front : Runs) (a b : List Edit) → rs ≡ front ++ a ∷ [] → AreRuns (rs ++ b ∷ []) → ArePair a b
 last-pair rs front a b is h = pair front a b (subst AreRuns (last-two rs front a b is) h)
 
-pub found-merge : SetsHold → (s : Stamp) (front : Runs) (a b : List Edit) → IsRising a → found_in s (front ++ union a b ∷ []) ≡ found_in s (front ++ a ∷ b ∷ [])
-found-merge laws s front a b r = found-append s front (union a b ∷ []) ∙ ap (first_of (found_in s front)) step ∙ sym (found-append s front (a ∷ b ∷ []))
+pub found-merge : SetsHold → (s : Stamp) (front : Runs) (a b : List Edit) → IsRising a
+    → found_in s (front ++ union a b ∷ []) ≡ found_in s (front ++ a ∷ b ∷ [])
+found-merge laws s front a b r =
+    found-append s front (union a b ∷ []) ∙ ap (first_of (found_in s front)) step ∙ sym (found-append s front (a ∷ b ∷ []))
   where
     step : found_in s (union a b ∷ []) ≡ found_in s (a ∷ b ∷ [])
-    step = first-none (edit_with s (union a b)) ∙ found-union laws.rises s a b r ∙ ap (first_of (edit_with s a)) (sym (first-none (edit_with s b)))
+    step =
+        first-none (edit_with s (union a b)) ∙ found-union laws.rises s a b r
+        ∙ ap (first_of (edit_with s a)) (sym (first-none (edit_with s b)))
 
 -- ---- an edit in the last run
 
-all-more : (r run : List Edit) (e : Edit) (front : Runs) → AllByRecursion (AreNew r) (front ++ run ∷ []) → edit_with e.stamp r ≡ None → AllByRecursion (AreNew r) (front ++ with_edit e run ∷ [])
+all-more : (r run : List Edit) (e : Edit) (front : Runs) → AllByRecursion (AreNew r) (front ++ run ∷ []) → edit_with e.stamp r ≡ None
+    → AllByRecursion (AreNew r) (front ++ with_edit e run ∷ [])
 all-more r run e [] n m = (each-with_edit (λ (g : Edit). edit_with g.stamp r ≡ None) e run m n.0, tt)
 all-more r run e (f ∷ front) n m = (n.0, all-more r run e front n.1 m)
 
-pub runs-more : SetsHold → (e : Edit) (front : Runs) (run : List Edit) → AreRuns (front ++ run ∷ []) → found_in e.stamp (front ++ run ∷ []) ≡ None → AreRuns (front ++ with_edit e run ∷ [])
+pub runs-more : SetsHold → (e : Edit) (front : Runs) (run : List Edit) → AreRuns (front ++ run ∷ [])
+    → found_in e.stamp (front ++ run ∷ []) ≡ None
+    → AreRuns (front ++ with_edit e run ∷ [])
 runs-more laws e [] run h none = (laws.rises e run h.0, tt, tt)
 runs-more laws e (f ∷ front) run h none =
     let both = first-both (edit_with e.stamp f) (found_in e.stamp (front ++ run ∷ [])) none in
@@ -130,10 +142,13 @@ found-in-last laws s e front run h =
 run-rises : SetsHold → (e : Edit) (run : List Edit) → IsRising run → AllBelow e.stamp run → with_edit e run ≡ run ++ e ∷ []
 run-rises laws e run r below = ap (with_edit e) (sym (append-nil run)) ∙ with_edit-between e run [] below tt
 
-found-more : SetsHold → (s : Stamp) (e : Edit) (run : List Edit) → IsRising run → AllBelow e.stamp run → edit_with s (run ++ e ∷ []) ≡ first_of (edit_with s run) (edit_with s (e ∷ []))
+found-more : SetsHold → (s : Stamp) (e : Edit) (run : List Edit) → IsRising run → AllBelow e.stamp run
+    → edit_with s (run ++ e ∷ []) ≡ first_of (edit_with s run) (edit_with s (e ∷ []))
 found-more laws s e run r below = sym (ap (edit_with s) (run-rises laws e run r below)) ∙ found-with_edit s e run r
 
-pub runs-push : SetsHold → (e : Edit) (front : Runs) (run : List Edit) → AreRuns (front ++ run ∷ []) → found_in e.stamp (front ++ run ∷ []) ≡ None → AllBelow e.stamp run → AreRuns (front ++ (run ++ e ∷ []) ∷ [])
+pub runs-push : SetsHold → (e : Edit) (front : Runs) (run : List Edit) → AreRuns (front ++ run ∷ [])
+    → found_in e.stamp (front ++ run ∷ []) ≡ None → AllBelow e.stamp run
+    → AreRuns (front ++ (run ++ e ∷ []) ∷ [])
 runs-push laws e front run h none below =
     subst (λ (es : List Edit). AreRuns (front ++ es ∷ [])) (run-rises laws e run (last-rises front run h) below) (runs-more laws e front run h none)
 
@@ -144,13 +159,16 @@ found-push laws s e front run h below =
 
 -- ---- an edit behind the first run
 
-all-first : (e : Edit) (log : List Edit) (rs : Runs) → IsRising log → AllByRecursion (AreNew log) rs → found_in e.stamp rs ≡ None → AllByRecursion (AreNew (with_edit e log)) rs
+all-first : (e : Edit) (log : List Edit) (rs : Runs) → IsRising log → AllByRecursion (AreNew log) rs → found_in e.stamp rs ≡ None
+    → AllByRecursion (AreNew (with_edit e log)) rs
 all-first e log [] r n none = tt
 all-first e log (q ∷ rs) r n none =
     let both = first-both (edit_with e.stamp q) (found_in e.stamp rs) none in
     (still-new e log q r n.0 both.0, all-first e log rs r n.1 both.1)
 
-pub runs-first : SetsHold → (e : Edit) (log : List Edit) (rs : Runs) → AreRuns (log ∷ rs) → found_in e.stamp (log ∷ rs) ≡ None → AllBelow e.stamp log → AreRuns ((log ++ e ∷ []) ∷ rs)
+pub runs-first : SetsHold → (e : Edit) (log : List Edit) (rs : Runs) → AreRuns (log ∷ rs) → found_in e.stamp (log ∷ rs) ≡ None
+    → AllBelow e.stamp log
+    → AreRuns ((log ++ e ∷ []) ∷ rs)
 runs-first laws e log rs h none below =
     let both = first-both (edit_with e.stamp log) (found_in e.stamp rs) none in
     let last = run-rises laws e log h.0 below in
@@ -168,7 +186,8 @@ one-found s e rs none = go (same_stamp e.stamp s) refl
     go true q = inr (subst (λ t. found_in t rs ≡ None) (same_stamp-true e.stamp s q) none)
     go false q = inl (rw q refl)
 
-pub found-first : SetsHold → (s : Stamp) (e : Edit) (log : List Edit) (rs : Runs) → AreRuns (log ∷ rs) → found_in e.stamp (log ∷ rs) ≡ None → AllBelow e.stamp log
+pub found-first : SetsHold → (s : Stamp) (e : Edit) (log : List Edit) (rs : Runs) → AreRuns (log ∷ rs) → found_in e.stamp (log ∷ rs) ≡ None
+    → AllBelow e.stamp log
     → found_in s ((log ++ e ∷ []) ∷ rs) ≡ first_of (found_in s (log ∷ rs)) (edit_with s (e ∷ []))
 found-first laws s e log rs h none below =
     let both = first-both (edit_with e.stamp log) (found_in e.stamp rs) none in
@@ -221,10 +240,12 @@ runs-cut q (r ∷ rs) h =
 new-to-both : SetsHold → (log q r : List Edit) → IsRising log → AreNew log r → AreNew q r → AreNew (union log q) r
 new-to-both laws log q [] i n m = tt
 new-to-both laws log q (f ∷ r) i n m =
-    let here : edit_with f.stamp (union log q) ≡ None = found-union laws.rises f.stamp log q i ∙ ap (λ o. first_of o (edit_with f.stamp q)) n.0 ∙ m.0 in
+    let here : edit_with f.stamp (union log q) ≡ None =
+        found-union laws.rises f.stamp log q i ∙ ap (λ o. first_of o (edit_with f.stamp q)) n.0 ∙ m.0 in
     (here, new-to-both laws log q r i n.1 m.1)
 
-all-new-to-both : SetsHold → (log q : List Edit) (rs : Runs) → IsRising log → AllByRecursion (AreNew log) rs → AreNewIn q rs → AllByRecursion (AreNew (union log q)) rs
+all-new-to-both : SetsHold → (log q : List Edit) (rs : Runs) → IsRising log → AllByRecursion (AreNew log) rs → AreNewIn q rs
+    → AllByRecursion (AreNew (union log q)) rs
 all-new-to-both laws log q [] i n m = tt
 all-new-to-both laws log q (r ∷ rs) i n m = (new-to-both laws log q r i n.0 (apart-turned r q m.0), all-new-to-both laws log q rs i n.1 m.1)
 
@@ -257,7 +278,8 @@ one-of s q rs n = go (edit_with s q) refl
     go None k = inr k
     go (Some g) k = inl (none-in s q g rs n k)
 
-pub found-close : SetsHold → (s : Stamp) (log q : List Edit) (rs : Runs) → AreRuns (log ∷ rs ++ q ∷ []) → found_in s (union log q ∷ rs) ≡ found_in s (log ∷ rs ++ q ∷ [])
+pub found-close : SetsHold → (s : Stamp) (log q : List Edit) (rs : Runs) → AreRuns (log ∷ rs ++ q ∷ [])
+    → found_in s (union log q ∷ rs) ≡ found_in s (log ∷ rs ++ q ∷ [])
 found-close laws s log q rs h =
     ap (λ (o : Found). first_of o (found_in s rs)) (found-union laws.rises s log q h.0)
     ∙ sym (first-swap (edit_with s log) (found_in s rs) (edit_with s q) (one-of s q rs (runs-cut q rs h.2).1))
@@ -265,12 +287,16 @@ found-close laws s log q rs h =
     ∙ ap (λ (o : Found). first_of (edit_with s log) (first_of (found_in s rs) o)) (sym (first-none (edit_with s q)))
     ∙ ap (first_of (edit_with s log)) (sym (found-append s rs (q ∷ [])))
 
-pub joined-close : SetsHold → (log q : List Edit) (rs : Runs) → AreRuns (log ∷ rs ++ q ∷ []) → joined (union log q ∷ rs) ≡ joined (log ∷ rs ++ q ∷ [])
-joined-close laws log q rs h = runs-same laws (union log q ∷ rs) (log ∷ rs ++ q ∷ []) (runs-close laws log q rs h) h (λ s. found-close laws s log q rs h)
+pub joined-close : SetsHold → (log q : List Edit) (rs : Runs) → AreRuns (log ∷ rs ++ q ∷ [])
+    → joined (union log q ∷ rs) ≡ joined (log ∷ rs ++ q ∷ [])
+joined-close laws log q rs h =
+    runs-same laws (union log q ∷ rs) (log ∷ rs ++ q ∷ []) (runs-close laws log q rs h) h (λ s. found-close laws s log q rs h)
 
 -- ---- one of the runs
 
-pub found-at : (s : Stamp) (rs : Runs) (i : ℕ) (r : List Edit) (f : Edit) → i < length rs → r ≡ slice_index_or rs i r → found_in s (take i rs) ≡ None → edit_with s r ≡ Some f → found_in s rs ≡ Some f
+pub found-at : (s : Stamp) (rs : Runs) (i : ℕ) (r : List Edit) (f : Edit) → i < length rs → r ≡ slice_index_or rs i r
+    → found_in s (take i rs) ≡ None → edit_with s r ≡ Some f
+    → found_in s rs ≡ Some f
 found-at s [] i r f l is none some = absurd (omega arith)
 found-at s (q ∷ rs) zero r f l is none some = ap (λ (o : Found). first_of o (found_in s rs)) (ap (edit_with s) (sym is) ∙ some)
 found-at s (q ∷ rs) (suc i) r f l is none some =
@@ -283,7 +309,9 @@ put-back [] i r l is = absurd (omega arith)
 put-back (q ∷ rs) zero r l is = ap (λ (p : List Edit). p ∷ rs) is
 put-back (q ∷ rs) (suc i) r l is = ap (λ (qs : Runs). q ∷ qs) (put-back rs i r (omega arith) is)
 
-pub none-on : (s : Stamp) (rs : Runs) (i : ℕ) (r : List Edit) → i < length rs → r ≡ slice_index_or rs i r → found_in s (take i rs) ≡ None → edit_with s r ≡ None → found_in s (take (suc i) rs) ≡ None
+pub none-on : (s : Stamp) (rs : Runs) (i : ℕ) (r : List Edit) → i < length rs → r ≡ slice_index_or rs i r → found_in s (take i rs) ≡ None
+    → edit_with s r ≡ None
+    → found_in s (take (suc i) rs) ≡ None
 none-on s [] i r l is none not = absurd (omega arith)
 none-on s (q ∷ []) zero r l is none not = ap (λ (o : Found). first_of o None) (ap (edit_with s) (sym is) ∙ not)
 none-on s (q ∷ p ∷ rs) zero r l is none not = ap (λ (o : Found). first_of o None) (ap (edit_with s) (sym is) ∙ not)
@@ -297,7 +325,8 @@ length-with : (e : Edit) (es : List Edit) → length (with_edit e es) ≤ length
 length-with e [] = omega arith
 length-with e (f ∷ fs) = go (before e.stamp f.stamp) (same_stamp e.stamp f.stamp) (length-with e fs)
   where
-    go : (c d : Bool) → length (with_edit e fs) ≤ length fs + 1 → length (cond c (e ∷ f ∷ fs) (cond d (f ∷ fs) (f ∷ with_edit e fs))) ≤ length (f ∷ fs) + 1
+    go : (c d : Bool) → length (with_edit e fs) ≤ length fs + 1
+        → length (cond c (e ∷ f ∷ fs) (cond d (f ∷ fs) (f ∷ with_edit e fs))) ≤ length (f ∷ fs) + 1
     go true d h = omega arith
     go false true h = omega arith
     go false false h = omega arith
@@ -341,7 +370,8 @@ runs-empty (r ∷ rs) h = (h.0, all-empty rs h.1, runs-empty rs h.2)
     all-empty (q ∷ qs) n = (n.0, all-empty qs n.1)
 
 -- what is neither in the log nor in the runs that ended is in the last run, or nowhere
-pub found-last : (s : Stamp) (log run : List Edit) (ended : Runs) → edit_with s log ≡ None → found_in s ended ≡ None → found_in s (log ∷ (ended ++ run ∷ [])) ≡ edit_with s run
+pub found-last : (s : Stamp) (log run : List Edit) (ended : Runs) → edit_with s log ≡ None → found_in s ended ≡ None
+    → found_in s (log ∷ (ended ++ run ∷ [])) ≡ edit_with s run
 found-last s log run ended none others =
     ap (λ (o : Found). first_of o (found_in s (ended ++ run ∷ []))) none
     ∙ found-append s ended (run ∷ [])

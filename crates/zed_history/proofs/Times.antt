@@ -13,11 +13,13 @@ use Rattle.zed_history.specs.Finding.{AllBelow}
 before-time : (a b : Stamp) → before a b ≡ true → a.time ≤ b.time
 before-time a b h = grind (arith)
 
-first-least : (x : Edit) (es : List Edit) → AllByRecursion (λ f. before x.stamp f.stamp ≡ true) es → 0 < length es → x.stamp.time ≤ greatest_time es
+first-least : (x : Edit) (es : List Edit) → AllByRecursion (λ f. before x.stamp f.stamp ≡ true) es → 0 < length es
+    → x.stamp.time ≤ greatest_time es
 first-least x [] a l = absurd (omega arith)
 first-least x (e ∷ es) a l = let h = before-time x.stamp e.stamp a.0 in omega arith
 
-pub greatest-last : (es : List Edit) (i : ℕ) (x : Edit) → IsRising es → i + 1 ≡ length es → x ≡ slice_index_or es i x → greatest_time es ≡ x.stamp.time
+pub greatest-last : (es : List Edit) (i : ℕ) (x : Edit) → IsRising es → i + 1 ≡ length es → x ≡ slice_index_or es i x
+    → greatest_time es ≡ x.stamp.time
 greatest-last [] i x r l h = absurd (omega arith)
 greatest-last (y ∷ []) zero x r l h = rw (← h) (omega arith)
 greatest-last (y ∷ []) (suc i) x r l h = absurd (omega arith)

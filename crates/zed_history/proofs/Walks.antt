@@ -23,20 +23,24 @@ rising-drop [] (suc i) r = tt
 rising-drop (e ∷ es) (suc i) r = rising-drop es i r.1
 
 -- from an edit on that is not before a stamp, no edit of a rising log is
-pub from-drop : (s : Stamp) (es : List Edit) (i : ℕ) → IsRising es → IfSome (slice_get es i) (λ f. before f.stamp s ≡ false) → AllFrom s (drop i es)
+pub from-drop : (s : Stamp) (es : List Edit) (i : ℕ) → IsRising es → IfSome (slice_get es i) (λ f. before f.stamp s ≡ false)
+    → AllFrom s (drop i es)
 from-drop s [] zero r h = tt
 from-drop s [] (suc i) r h = tt
 from-drop s (e ∷ es) zero r h = (h, from-later s e.stamp es h r.0)
 from-drop s (e ∷ es) (suc i) r h = from-drop s es i r.1 h
 
-pub below-take : (s : Stamp) (es : List Edit) (i : ℕ) → IsRising es → (0 < i → IfSome (slice_get es (i - 1)) (λ f. before f.stamp s ≡ true)) → i ≤ length es → AllBelow s (take i es)
+pub below-take : (s : Stamp) (es : List Edit) (i : ℕ) → IsRising es → (0 < i → IfSome (slice_get es (i - 1)) (λ f. before f.stamp s ≡ true))
+    → i ≤ length es
+    → AllBelow s (take i es)
 below-take s es zero r h l = tt
 below-take s es (suc i) r h l =
     let q : suc i - 1 ≡ i = omega arith in
     AllBelow-take s es i r (rw q at (h (omega arith))) (omega arith)
 
 -- a rising log from a stamp on that doesn't begin with it is above it
-pub above-rising : (s : Stamp) (es : List Edit) → IsRising es → AllFrom s es → IfSome (slice_get es 0) (λ f. same_stamp s f.stamp ≡ false) → AllAbove s es
+pub above-rising : (s : Stamp) (es : List Edit) → IsRising es → AllFrom s es → IfSome (slice_get es 0) (λ f. same_stamp s f.stamp ≡ false)
+    → AllAbove s es
 above-rising s [] r a h = tt
 above-rising s (e ∷ es) r a h =
     let b = before_other_after e.stamp s a.0 h in

@@ -8,7 +8,9 @@ use Rattle.zed_host.proofs.Counts.{counted_up, no_rise}
 pub leads_one : {H : Type 0} (called : H → Call → H → Type 0) (c : Call) (old new : H) → called old c new → Leads called (c ∷ []) old new
 leads_one called c old new is = (new, is, refl)
 
-pub leads_then : {H : Type 0} (called : H → Call → H → Type 0) (xs ys : List Call) (old mid new : H) → Leads called xs old mid → Leads called ys mid new → Leads called (xs ++ ys) old new
+pub leads_then : {H : Type 0} (called : H → Call → H → Type 0) (xs ys : List Call) (old mid new : H) → Leads called xs old mid
+    → Leads called ys mid new
+    → Leads called (xs ++ ys) old new
 leads_then called [] ys old mid new first second = subst (λ m. Leads called ys m new) first second
 leads_then called (c ∷ xs) ys old mid new first second = (first.0, first.1, leads_then called xs ys first.0 mid new first.2 second)
 
@@ -31,7 +33,8 @@ never_fewer called failed law (c ∷ calls) old new is =
     omega arith
 
 -- where no failure was counted, there was no fault
-pub calm_calls : {H : Type 0} (called : H → Call → H → Type 0) (failed faults : H → ℕ) → CountsFailures called failed → CountsNoFault called faults
+pub calm_calls : {H : Type 0} (called : H → Call → H → Type 0) (failed faults : H → ℕ) → CountsFailures called failed
+    → CountsNoFault called faults
     → (calls : List Call) (old new : H) → Leads called calls old new → NothingFailed (failed old) (failed new) → faults new ≡ faults old
 calm_calls called failed faults law none [] old new is calm = ap faults is
 calm_calls called failed faults law none (c ∷ calls) old new is calm =
@@ -40,7 +43,8 @@ calm_calls called failed faults law none (c ∷ calls) old new is calm =
   where
     go : (b : Bool) → c.failed ≡ b → Counts b (failed old) (failed is.0)
         → (NothingFailed (failed is.0) (failed new) → faults new ≡ faults is.0) → faults new ≡ faults old
-    go true lost count later = absurd (no_rise (failed old) (failed is.0) (failed new) (never_fewer called failed law calls is.0 new is.2) calm count)
+    go true lost count later =
+        absurd (no_rise (failed old) (failed is.0) (failed new) (never_fewer called failed law calls is.0 new is.2) calm count)
     go false went count later =
         let still : failed new ≡ failed old = calm.0 in
         let low : failed old < most_counted = calm.1 in

@@ -50,12 +50,15 @@ is_among x ns = list_any (λ n. same_thing n x) ns
 
 -- with the things that are left, an edit is listed
 pub record IsHalf (e : Edit) (left : List Thing) (old now : List (Thing × Stamp)) : Type 0 where
-  pub each : (x : Thing) (s : Stamp) → (is_listed x s now || (is_among x left && same_stamp e.stamp s)) ≡ (is_listed x s old || belongs x s e)
+  pub each : (x : Thing) (s : Stamp)
+      → (is_listed x s now || (is_among x left && same_stamp e.stamp s)) ≡ (is_listed x s old || belongs x s e)
 
 pub begun : (e : Edit) (left : List Thing) (old : List (Thing × Stamp)) → left ≡ names_of e.op → IsHalf e left old old
 begun e left old is = record { each = λ x s. ap (λ ns. is_listed x s old || (is_among x ns && same_stamp e.stamp s)) is }
 
-pub one_on : (e : Edit) (n : Thing) (left more : List Thing) (old now new : List (Thing × Stamp)) → IsHalf e left old now → left ≡ n ∷ more → ListsOne n e.stamp now new → IsHalf e more old new
+pub one_on : (e : Edit) (n : Thing) (left more : List Thing) (old now new : List (Thing × Stamp)) → IsHalf e left old now → left ≡ n ∷ more
+    → ListsOne n e.stamp now new
+    → IsHalf e more old new
 one_on e n left more old now new half is one = record {
   each = λ x s.
       ap (λ b. b || (is_among x more && same_stamp e.stamp s)) (one.each x s)
@@ -72,7 +75,9 @@ done e left old now half is = record {
       ∙ half.each x s;
 }
 
-pub undone : (e : Edit) (left : List Thing) (old now mid new : List (Thing × Stamp)) → IsUnlisted e.stamp old → IsHalf e left old now → mid ≡ now → ListsNoMore e mid new → ListsTheSame old new
+pub undone : (e : Edit) (left : List Thing) (old now mid new : List (Thing × Stamp)) → IsUnlisted e.stamp old → IsHalf e left old now
+    → mid ≡ now → ListsNoMore e mid new
+    → ListsTheSame old new
 undone e left old now mid new none half is gone = record {
   each = λ x s.
       gone.each x s
@@ -82,12 +87,15 @@ undone e left old now mid new none half is gone = record {
 
 -- without the things that are left, an edit is no longer listed
 pub record IsHalfOff (e : Edit) (left : List Thing) (old now : List (Thing × Stamp)) : Type 0 where
-  pub each : (x : Thing) (s : Stamp) → (is_listed x s now && not (is_among x left && same_stamp e.stamp s)) ≡ (is_listed x s old && not (belongs x s e))
+  pub each : (x : Thing) (s : Stamp)
+      → (is_listed x s now && not (is_among x left && same_stamp e.stamp s)) ≡ (is_listed x s old && not (belongs x s e))
 
 pub off_begun : (e : Edit) (left : List Thing) (old : List (Thing × Stamp)) → left ≡ names_of e.op → IsHalfOff e left old old
 off_begun e left old is = record { each = λ x s. ap (λ ns. is_listed x s old && not (is_among x ns && same_stamp e.stamp s)) is }
 
-pub one_off : (e : Edit) (n : Thing) (left more : List Thing) (old now new : List (Thing × Stamp)) → IsHalfOff e left old now → left ≡ n ∷ more → ListsOneLess n e.stamp now new → IsHalfOff e more old new
+pub one_off : (e : Edit) (n : Thing) (left more : List Thing) (old now new : List (Thing × Stamp)) → IsHalfOff e left old now
+    → left ≡ n ∷ more → ListsOneLess n e.stamp now new
+    → IsHalfOff e more old new
 one_off e n left more old now new half is one = record {
   each = λ x s.
       ap (λ b. b && not (is_among x more && same_stamp e.stamp s)) (one.each x s)
@@ -96,7 +104,8 @@ one_off e n left more old now new half is one = record {
       ∙ half.each x s;
 }
 
-pub off_done : (e : Edit) (left : List Thing) (old now : List (Thing × Stamp)) → IsHalfOff e left old now → left ≡ [] → ListsNoMore e old now
+pub off_done : (e : Edit) (left : List Thing) (old now : List (Thing × Stamp)) → IsHalfOff e left old now → left ≡ []
+    → ListsNoMore e old now
 off_done e left old now half is = record {
   each = λ x s.
       sym (and_all (is_listed x s now))

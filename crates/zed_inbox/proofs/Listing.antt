@@ -59,16 +59,20 @@ sorted_none : IsStrictlySortedBy stamp_cmp []
 unfolding IsStrictlySortedBy
 sorted_none = tt
 
-sorted_cons : (b : Bool) (t : Stamp) (ts : List Stamp) → (b ≡ true → AllByRecursion (λ u. stamp_cmp t u ≡ Less) ts) → IsStrictlySortedBy stamp_cmp ts → IsStrictlySortedBy stamp_cmp (cond b (t ∷ ts) ts)
+sorted_cons : (b : Bool) (t : Stamp) (ts : List Stamp) → (b ≡ true → AllByRecursion (λ u. stamp_cmp t u ≡ Less) ts)
+    → IsStrictlySortedBy stamp_cmp ts
+    → IsStrictlySortedBy stamp_cmp (cond b (t ∷ ts) ts)
 unfolding IsStrictlySortedBy
 sorted_cons true t ts a up = (a refl, up)
 sorted_cons false t ts a up = up
 
-stamps_past : (p : Edit → Bool) (a : Stamp) (es : List Edit) → AllByRecursion (λ f. before a f.stamp ≡ true) es → AllByRecursion (λ t. stamp_cmp a t ≡ Less) (stamps_of (filter p es))
+stamps_past : (p : Edit → Bool) (a : Stamp) (es : List Edit) → AllByRecursion (λ f. before a f.stamp ≡ true) es
+    → AllByRecursion (λ t. stamp_cmp a t ≡ Less) (stamps_of (filter p es))
 stamps_past p a [] h = tt
 stamps_past p a (e ∷ es) h = go (p e) (stamps_past p a es h.1)
   where
-    go : (b : Bool) → AllByRecursion (λ t. stamp_cmp a t ≡ Less) (stamps_of (filter p es)) → AllByRecursion (λ t. stamp_cmp a t ≡ Less) (stamps_of (cond b (e ∷ filter p es) (filter p es)))
+    go : (b : Bool) → AllByRecursion (λ t. stamp_cmp a t ≡ Less) (stamps_of (filter p es))
+        → AllByRecursion (λ t. stamp_cmp a t ≡ Less) (stamps_of (cond b (e ∷ filter p es) (filter p es)))
     go true more = (rising_less a e.stamp h.0, more)
     go false more = more
 
@@ -76,16 +80,19 @@ sorted_naming : (p : Edit → Bool) (es : List Edit) → IsRising es → IsStric
 sorted_naming p [] r = sorted_none
 sorted_naming p (e ∷ es) r = go (p e) (sorted_naming p es r.1)
   where
-    go : (b : Bool) → IsStrictlySortedBy stamp_cmp (stamps_of (filter p es)) → IsStrictlySortedBy stamp_cmp (stamps_of (cond b (e ∷ filter p es) (filter p es)))
+    go : (b : Bool) → IsStrictlySortedBy stamp_cmp (stamps_of (filter p es))
+        → IsStrictlySortedBy stamp_cmp (stamps_of (cond b (e ∷ filter p es) (filter p es)))
     go true more = sorted_cons true e.stamp (stamps_of (filter p es)) (λ h. stamps_past p e.stamp es r.0) more
     go false more = more
 
-any_naming : (x : Thing) (s : Stamp) (es : List Edit) → list_any (is_at (stamp_cmp s)) (stamps_of (filter (names x) es)) ≡ list_any (belongs x s) es
+any_naming : (x : Thing) (s : Stamp) (es : List Edit)
+    → list_any (is_at (stamp_cmp s)) (stamps_of (filter (names x) es)) ≡ list_any (belongs x s) es
 any_naming x s [] = refl
 any_naming x s (e ∷ es) = go (names x e) (any_naming x s es)
   where
     go : (b : Bool) → list_any (is_at (stamp_cmp s)) (stamps_of (filter (names x) es)) ≡ list_any (belongs x s) es
-        → list_any (is_at (stamp_cmp s)) (stamps_of (cond b (e ∷ filter (names x) es) (filter (names x) es))) ≡ ((b && same_stamp e.stamp s) || list_any (belongs x s) es)
+        → list_any (is_at (stamp_cmp s)) (stamps_of (cond b (e ∷ filter (names x) es) (filter (names x) es)))
+        ≡ ((b && same_stamp e.stamp s) || list_any (belongs x s) es)
     go true more = either (alike s e.stamp) more
     go false more = more
 
@@ -125,7 +132,9 @@ module _ (R : Thing → Thing → Ordering) (o : IsThingOrder R) where
   sorted_listed x (w ∷ ws) up =
       sorted_cons (same_thing w.0 x) w.1 (listed x ws) (λ h. stamps_after x w h ws (sorted_head (wait_cmp R) w ws up)) (sorted_listed x ws (sorted_tail (wait_cmp R) w ws up))
 
-  none_past : (x : Thing) (m : Thing × Stamp) → R x m.0 ≡ Less → (ws : List (Thing × Stamp)) → AllByRecursion (λ v. wait_cmp R m v ≡ Less) ws → listed x ws ≡ []
+  none_past : (x : Thing) (m : Thing × Stamp) → R x m.0 ≡ Less → (ws : List (Thing × Stamp))
+      → AllByRecursion (λ v. wait_cmp R m v ≡ Less) ws
+      → listed x ws ≡ []
   none_past x m e [] a = refl
   none_past x m e (v ∷ vs) a =
       let apart : same_thing v.0 x ≡ false = sym (back R o x v.0) ∙ ap is_eq (beyond R o x m v e a.0) in
@@ -141,7 +150,8 @@ module _ (R : Thing → Thing → Ordering) (o : IsThingOrder R) where
   run_listed x [] up = refl
   run_listed x (w ∷ ws) up = go (R x w.0) refl (run_listed x ws (sorted_tail (wait_cmp R) w ws up))
     where
-      go : (r : Ordering) → R x w.0 ≡ r → run x (filter (inside x) ws) ≡ listed x ws → run x (cond (inside x w) (w ∷ filter (inside x) ws) (filter (inside x) ws)) ≡ listed x (w ∷ ws)
+      go : (r : Ordering) → R x w.0 ≡ r → run x (filter (inside x) ws) ≡ listed x ws
+          → run x (cond (inside x w) (w ∷ filter (inside x) ws) (filter (inside x) ws)) ≡ listed x (w ∷ ws)
       go Less e more =
           let within : inside x w ≡ true = ap (λ r. is_le (ordering_then r (stamp_cmp first w.1)) && true) e in
           let apart : same_thing w.0 x ≡ false = sym (back R o x w.0) ∙ ap is_eq e in
@@ -150,7 +160,8 @@ module _ (R : Thing → Thing → Ordering) (o : IsThingOrder R) where
           ∙ sym (none_past x w e ws (sorted_head (wait_cmp R) w ws up))
           ∙ sym (ap (λ b. cond b (w.1 ∷ listed x ws) (listed x ws)) apart)
       go Equal e more =
-          let within : inside x w ≡ true = ap (λ r. is_le (ordering_then r (stamp_cmp first w.1)) && true) e ∙ ap (λ b. b && true) (from_first w.1) in
+          let within : inside x w ≡ true =
+          ap (λ r. is_le (ordering_then r (stamp_cmp first w.1)) && true) e ∙ ap (λ b. b && true) (from_first w.1) in
           let one : same_thing w.0 x ≡ true = sym (back R o x w.0) ∙ ap is_eq e in
           ap (λ b. run x (cond b (w ∷ filter (inside x) ws) (filter (inside x) ws))) within
           ∙ ap (λ b. cond b (w.1 ∷ run x (filter (inside x) ws)) []) one
@@ -164,7 +175,8 @@ module _ (R : Thing → Thing → Ordering) (o : IsThingOrder R) where
           ∙ sym (ap (λ b. cond b (w.1 ∷ listed x ws) (listed x ws)) apart)
 
   -- the keys of a thing have the stamps of the edits that name it
-  pub found_stamps : (x : Thing) (ws : List (Thing × Stamp)) (es : List Edit) → IsStrictlySortedBy (wait_cmp R) ws → IsRising es → AreListed ws es
+  pub found_stamps : (x : Thing) (ws : List (Thing × Stamp)) (es : List Edit) → IsStrictlySortedBy (wait_cmp R) ws → IsRising es
+      → AreListed ws es
       → run x (filter (range_contains (wait_cmp R) (Included (x, first)) Unbounded) ws) ≡ stamps_of (naming x es)
   found_stamps x ws es up rises are =
       run_listed x ws up

@@ -111,9 +111,13 @@ module _ (R : Thing → Thing → Ordering) where
         ∙ ap (λ v. cond (same_thing n x && same_stamp t s) b v) (told x s old)
 
     pub listed_with : (n : Thing) (t : Stamp) (old new : List (Thing × Stamp))
-        → ((q : Thing × Stamp) → list_any (is_at (wait_cmp q)) new ≡ cond (is_at (wait_cmp (n, t)) q) true (list_any (is_at (wait_cmp q)) old)) → ListsOne n t old new
-    listed_with n t old new h = record { each = λ x s. listed_after n t true old new h x s ∙ or_after (same_thing n x && same_stamp t s) (is_listed x s old) }
+        → ((q : Thing × Stamp) → list_any (is_at (wait_cmp q)) new ≡ cond (is_at (wait_cmp (n, t)) q) true (list_any (is_at (wait_cmp q)) old))
+        → ListsOne n t old new
+    listed_with n t old new h =
+        record { each = λ x s. listed_after n t true old new h x s ∙ or_after (same_thing n x && same_stamp t s) (is_listed x s old) }
 
     pub listed_without : (n : Thing) (t : Stamp) (old new : List (Thing × Stamp))
-        → ((q : Thing × Stamp) → list_any (is_at (wait_cmp q)) new ≡ cond (is_at (wait_cmp (n, t)) q) false (list_any (is_at (wait_cmp q)) old)) → ListsOneLess n t old new
-    listed_without n t old new h = record { each = λ x s. listed_after n t false old new h x s ∙ and_after (same_thing n x && same_stamp t s) (is_listed x s old) }
+        → ((q : Thing × Stamp) → list_any (is_at (wait_cmp q)) new ≡ cond (is_at (wait_cmp (n, t)) q) false (list_any (is_at (wait_cmp q)) old))
+        → ListsOneLess n t old new
+    listed_without n t old new h =
+        record { each = λ x s. listed_after n t false old new h x s ∙ and_after (same_thing n x && same_stamp t s) (is_listed x s old) }

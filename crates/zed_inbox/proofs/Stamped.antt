@@ -33,7 +33,9 @@ lookup_stamped s (e ∷ es) =
 -- without the edit under a stamp
 pub remove_stamped : (s : Stamp) (es : List Edit) → remove_entry (is_at (stamp_cmp s)) (stamped es) ≡ stamped (without s es)
 remove_stamped s [] = refl
-remove_stamped s (e ∷ es) = ap (λ b. cond b (stamped es) ((e.stamp, e) ∷ remove_entry (is_at (stamp_cmp s)) (stamped es))) (alike s e.stamp) ∙ go (same_stamp e.stamp s) (remove_stamped s es)
+remove_stamped s (e ∷ es) =
+    ap (λ b. cond b (stamped es) ((e.stamp, e) ∷ remove_entry (is_at (stamp_cmp s)) (stamped es))) (alike s e.stamp)
+    ∙ go (same_stamp e.stamp s) (remove_stamped s es)
   where
     go : (b : Bool) → remove_entry (is_at (stamp_cmp s)) (stamped es) ≡ stamped (without s es)
         → cond b (stamped es) ((e.stamp, e) ∷ remove_entry (is_at (stamp_cmp s)) (stamped es)) ≡ stamped (cond b es (e ∷ without s es))
@@ -41,7 +43,8 @@ remove_stamped s (e ∷ es) = ap (λ b. cond b (stamped es) ((e.stamp, e) ∷ re
     go false more = ap (λ m. (e.stamp, e) ∷ m) more
 
 -- an edit with a new stamp goes to its place
-pub insert_stamped : (e : Edit) (es : List Edit) → find (has_stamp e.stamp) es ≡ None → insert_entry stamp_cmp (stamped es) e.stamp e ≡ stamped (with_edit e es)
+pub insert_stamped : (e : Edit) (es : List Edit) → find (has_stamp e.stamp) es ≡ None
+    → insert_entry stamp_cmp (stamped es) e.stamp e ≡ stamped (with_edit e es)
 insert_stamped e [] none = refl
 insert_stamped e (f ∷ fs) none =
     let split = apart (same_stamp f.stamp e.stamp) refl none in
@@ -75,7 +78,8 @@ stamps_stamped (e ∷ es) = ap (λ ss. e.stamp ∷ ss) (stamps_stamped es)
 pub keys_stamped : (m : List (Stamp × Edit)) (es : List Edit) → m ≡ stamped (values_of m) → values_of m ≡ es → keys_of m ≡ stamps_of es
 keys_stamped m es under is = ap keys_of under ∙ stamps_stamped (values_of m) ∙ ap stamps_of is
 
-pub kept_stamped : (m : List (Stamp × Edit)) (es : List Edit) (ws : List (Thing × Stamp)) → m ≡ stamped es → IsRising es → AreListed ws es → AreKept m ws
+pub kept_stamped : (m : List (Stamp × Edit)) (es : List Edit) (ws : List (Thing × Stamp)) → m ≡ stamped es → IsRising es → AreListed ws es
+    → AreKept m ws
 kept_stamped m es ws is rises are = record {
   under = is ∙ ap stamped (sym (values_stamped m es is));
   rising = rw (values_stamped m es is) rises;
@@ -87,7 +91,8 @@ pub find_some : (s : Stamp) (es : List Edit) → is_some (find (has_stamp s) es)
 find_some s [] = refl
 find_some s (e ∷ es) = go (same_stamp e.stamp s) (find_some s es)
   where
-    go : (b : Bool) → is_some (find (has_stamp s) es) ≡ list_any (has_stamp s) es → is_some (cond b (Some e) (find (has_stamp s) es)) ≡ (b || list_any (has_stamp s) es)
+    go : (b : Bool) → is_some (find (has_stamp s) es) ≡ list_any (has_stamp s) es
+        → is_some (cond b (Some e) (find (has_stamp s) es)) ≡ (b || list_any (has_stamp s) es)
     go true more = refl
     go false more = more
 
@@ -96,7 +101,8 @@ pub with_edit_there : (e : Edit) (es : List Edit) → IsRising es → list_any (
 with_edit_there e [] r h = absurd (cc)
 with_edit_there e (f ∷ fs) r h = go (before e.stamp f.stamp) refl (same_stamp e.stamp f.stamp) refl (λ k. with_edit_there e fs r.1 k)
   where
-    later : (s : Stamp) (gs : List Edit) → before s f.stamp ≡ true → AllByRecursion (λ g. before f.stamp g.stamp ≡ true) gs → list_any (has_stamp s) gs ≡ false
+    later : (s : Stamp) (gs : List Edit) → before s f.stamp ≡ true → AllByRecursion (λ g. before f.stamp g.stamp ≡ true) gs
+        → list_any (has_stamp s) gs ≡ false
     later s [] b a = refl
     later s (g ∷ gs) b a = let d : same_stamp g.stamp s ≡ false = apart s f.stamp g.stamp b a.0 in rw (d, later s gs b a.1) refl
       where
@@ -109,7 +115,8 @@ with_edit_there e (f ∷ fs) r h = go (before e.stamp f.stamp) refl (same_stamp 
         no : (s t : Stamp) → before s t ≡ true → same_stamp t s ≡ false
         no s t b = grind (arith)
 
-    go : (b : Bool) → before e.stamp f.stamp ≡ b → (c : Bool) → same_stamp e.stamp f.stamp ≡ c → (list_any (has_stamp e.stamp) fs ≡ true → with_edit e fs ≡ fs)
+    go : (b : Bool) → before e.stamp f.stamp ≡ b → (c : Bool) → same_stamp e.stamp f.stamp ≡ c
+        → (list_any (has_stamp e.stamp) fs ≡ true → with_edit e fs ≡ fs)
         → cond b (e ∷ f ∷ fs) (cond c (f ∷ fs) (f ∷ with_edit e fs)) ≡ f ∷ fs
     go true b c d more =
         let gone : list_any (has_stamp e.stamp) (f ∷ fs) ≡ false = rw (here b, later e.stamp fs b r.0) refl in

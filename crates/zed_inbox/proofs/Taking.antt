@@ -45,7 +45,9 @@ module _ (p : Edit → Bool) where
   keep b f es = cond b (f ∷ es) es
 
   -- the first stamp of those that pass is later than a stamp before all
-  later : (f : Edit) (s : Stamp) (ss : List Stamp) (es : List Edit) → AllByRecursion (λ g. before f.stamp g.stamp ≡ true) es → s ∷ ss ≡ stamps_of (filter p es) → before f.stamp s ≡ true
+  later : (f : Edit) (s : Stamp) (ss : List Stamp) (es : List Edit) → AllByRecursion (λ g. before f.stamp g.stamp ≡ true) es
+      → s ∷ ss ≡ stamps_of (filter p es)
+      → before f.stamp s ≡ true
   later f s ss [] a h = absurd (cc)
   later f s ss (g ∷ gs) a h = go (p g) refl (λ k. later f s ss gs a.1 k)
     where
@@ -96,7 +98,8 @@ module _ (p : Edit → Bool) where
   none_passes [] h = (refl, refl)
   none_passes (f ∷ fs) h = go (p f) refl (λ k. none_passes fs k)
     where
-      go : (b : Bool) → p f ≡ b → ([] ≡ stamps_of (filter p fs) → (filter p fs ≡ []) × (filter fails fs ≡ fs)) → (filter p (f ∷ fs) ≡ []) × (filter fails (f ∷ fs) ≡ f ∷ fs)
+      go : (b : Bool) → p f ≡ b → ([] ≡ stamps_of (filter p fs) → (filter p fs ≡ []) × (filter fails fs ≡ fs))
+          → (filter p (f ∷ fs) ≡ []) × (filter fails (f ∷ fs) ≡ f ∷ fs)
       go true e more = let bad : [] ≡ f.stamp ∷ stamps_of (filter p fs) = h ∙ ap (λ b. stamps_of (keep b f (filter p fs))) e in absurd (cc)
       go false e more =
           let rest = more (h ∙ ap (λ b. stamps_of (keep b f (filter p fs))) e) in
@@ -109,14 +112,18 @@ module _ (p : Edit → Bool) where
     pub others : filter fails (without s es) ≡ filter fails es
     pub rising : IsRising (without s es)
 
-  pub step : (s : Stamp) (ss : List Stamp) (out : List Edit) (edit : Edit) (es : List Edit) → IsRising es → s ∷ ss ≡ stamps_of (filter p es) → find (has_stamp s) es ≡ Some edit → IsStep s ss out edit es
+  pub step : (s : Stamp) (ss : List Stamp) (out : List Edit) (edit : Edit) (es : List Edit) → IsRising es → s ∷ ss ≡ stamps_of (filter p es)
+      → find (has_stamp s) es ≡ Some edit
+      → IsStep s ss out edit es
   step s ss out edit es r h found =
       let t = take_first s ss es r h in
       let same : t.edit ≡ edit = ap (some_or edit) (sym t.found ∙ found) in
       let tails : s ∷ ss ≡ t.edit.stamp ∷ stamps_of (filter p (without s es)) = h ∙ ap stamps_of t.first in
       record {
         left = ap rest_of tails;
-        got = append_assoc out (edit ∷ []) (filter p (without s es)) ∙ ap (λ e. out ++ e ∷ filter p (without s es)) (sym same) ∙ ap (λ xs. out ++ xs) (sym t.first);
+        got =
+            append_assoc out (edit ∷ []) (filter p (without s es)) ∙ ap (λ e. out ++ e ∷ filter p (without s es)) (sym same)
+            ∙ ap (λ xs. out ++ xs) (sym t.first);
         others = t.others;
         rising = rising_without s es r;
       }

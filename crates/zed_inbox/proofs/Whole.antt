@@ -25,13 +25,15 @@ whole_still m n ws whole is = subst (λ q. AreKept q ws) (sym is) whole
 module _ (m n : List (Stamp × Edit)) (ws us : List (Thing × Stamp)) (whole : AreKept m ws) where
   module _ (e : Edit) (new : list_any (has_stamp e.stamp) (values_of m) ≡ false) where
     made : n ≡ insert_entry stamp_cmp m e.stamp e → n ≡ stamped (with_edit e (values_of m))
-    made is = is ∙ ap (λ q. insert_entry stamp_cmp q e.stamp e) whole.under ∙ insert_stamped e (values_of m) (find_none e.stamp (values_of m) new)
+    made is =
+        is ∙ ap (λ q. insert_entry stamp_cmp q e.stamp e) whole.under ∙ insert_stamped e (values_of m) (find_none e.stamp (values_of m) new)
 
     pub edits_more : n ≡ insert_entry stamp_cmp m e.stamp e → values_of n ≡ with_edit e (values_of m)
     edits_more is = values_stamped n (with_edit e (values_of m)) (made is)
 
     pub whole_more : n ≡ insert_entry stamp_cmp m e.stamp e → IsRising (with_edit e (values_of m)) → ListsAlso e ws us → AreKept n us
-    whole_more is rises also = kept_stamped n (with_edit e (values_of m)) us (made is) rises (listed_more e (values_of m) ws us new whole.listed also)
+    whole_more is rises also =
+        kept_stamped n (with_edit e (values_of m)) us (made is) rises (listed_more e (values_of m) ws us new whole.listed also)
 
     pub whole_back : n ≡ m → (mid : List (Thing × Stamp)) → ListsAlso e ws mid → ListsNoMore e mid us → AreKept n us
     whole_back is mid also gone = subst (λ q. AreKept q us) (sym is) (record {
@@ -56,5 +58,6 @@ module _ (m n : List (Stamp × Edit)) (ws us : List (Thing × Stamp)) (whole : A
 
     pub whole_less : (r : Option Edit) (e : Edit) → r ≡ lookup (is_at (stamp_cmp s)) m → r ≡ Some e → ListsNoMore e ws us → AreKept n us
     whole_less r e look some no_more =
-        let found : find (has_stamp s) (values_of m) ≡ Some e = sym (lookup_stamped s (values_of m)) ∙ sym (ap (λ q. lookup (is_at (stamp_cmp s)) q) whole.under) ∙ sym look ∙ some in
+        let found : find (has_stamp s) (values_of m) ≡ Some e =
+        sym (lookup_stamped s (values_of m)) ∙ sym (ap (λ q. lookup (is_at (stamp_cmp s)) q) whole.under) ∙ sym look ∙ some in
         kept_stamped n (without s (values_of m)) us gone (rising_without s (values_of m) whole.rising) (listed_less s e (values_of m) ws us whole.rising found whole.listed no_more)

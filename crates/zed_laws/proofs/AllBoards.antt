@@ -4,7 +4,9 @@ use Rattle.std.specs.List.{AllByRecursion}
 use Rattle.zed_edit.specs.Document.{change_such}
 
 -- each of some things changed where a test says so
-pub each_changed : {X : Type 0} (P : X → Type 0) (test : X → Bool) (f : X → X) (xs : List X) → ((x : X) → test x ≡ true → P x → P (f x)) → AllByRecursion P xs → AllByRecursion P (change_such test f xs)
+pub each_changed : {X : Type 0} (P : X → Type 0) (test : X → Bool) (f : X → X) (xs : List X) → ((x : X) → test x ≡ true → P x → P (f x))
+    → AllByRecursion P xs
+    → AllByRecursion P (change_such test f xs)
 each_changed P test f [] keeps h = tt
 each_changed P test f (x ∷ xs) keeps h = (one (test x) refl, each_changed P test f xs keeps h.1)
   where
@@ -12,7 +14,8 @@ each_changed P test f (x ∷ xs) keeps h = (one (test x) refl, each_changed P te
     one true e = keeps x e h.0
     one false e = h.0
 
-pub all_mapped : {X : Type 0} (P : X → Type 0) (f : X → X) (xs : List X) → ((x : X) → P x → P (f x)) → AllByRecursion P xs → AllByRecursion P (map f xs)
+pub all_mapped : {X : Type 0} (P : X → Type 0) (f : X → X) (xs : List X) → ((x : X) → P x → P (f x)) → AllByRecursion P xs
+    → AllByRecursion P (map f xs)
 all_mapped P f [] keeps h = tt
 all_mapped P f (x ∷ xs) keeps h = (keeps x h.0, all_mapped P f xs keeps h.1)
 

@@ -12,11 +12,14 @@ use Rattle.zed_laws.specs.NameOrder.{BoardsThereAreApart}
 later-other : (a b id : BoardId) → is_earlier a.name b.name ≡ true → same_board a id ≡ true → same_board b id ≡ false
 later-other a b id h k = grind (arith)
 
-none-later : (x : Board) (bs : List Board) (id : BoardId) → same_board x.id id ≡ true → AllByRecursion (λ y. is_earlier x.id.name y.id.name ≡ true) bs → count_by (λ b. same_board b.id id) bs ≡ 0
+none-later : (x : Board) (bs : List Board) (id : BoardId) → same_board x.id id ≡ true
+    → AllByRecursion (λ y. is_earlier x.id.name y.id.name ≡ true) bs
+    → count_by (λ b. same_board b.id id) bs ≡ 0
 none-later x [] id k h = refl
 none-later x (y ∷ ys) id k h =
     let c = count-cons (λ (b : Board). same_board b.id id) y ys in
-    let e : count_by (λ (b : Board). same_board b.id id) (y ∷ ys) ≡ 0 + count_by (λ (b : Board). same_board b.id id) ys = c ∙ ap (λ t. cond t 1 0 + count_by (λ (b : Board). same_board b.id id) ys) (later-other x.id y.id id h.0 k) in
+    let e : count_by (λ (b : Board). same_board b.id id) (y ∷ ys) ≡ 0 + count_by (λ (b : Board). same_board b.id id) ys =
+    c ∙ ap (λ t. cond t 1 0 + count_by (λ (b : Board). same_board b.id id) ys) (later-other x.id y.id id h.0 k) in
     let more = none-later x ys id k h.1 in
     omega (arith, e, more)
 

@@ -50,7 +50,8 @@ abbrev Sets : {V : Type 0} → Field Board V → Type 0
 Sets f = (op : Op) (b : Board) → IsWholeBoard b → f.value (on_board op b) ≡ overwritten (f.value b) (f.set op)
 
 byte-sets : (f : BoardByte) → Sets (board_byte f)
-byte-sets f (SetBoard c (property.Byte g v)) b r = written-at 0 b.properties.bytes 3 (board_byte_index f) (board_byte_index g) v r.bytes (byte-within f)
+byte-sets f (SetBoard c (property.Byte g v)) b r =
+    written-at 0 b.properties.bytes 3 (board_byte_index f) (board_byte_index g) v r.bytes (byte-within f)
 byte-sets f (SetBoard c _) b r = refl
 byte-sets f _ b r = refl
 
@@ -58,7 +59,8 @@ pub is_byte : (f : BoardByte) → IsBoardField (board_byte f)
 is_byte f = record { sets = byte-sets f; beside = λ b ss. refl }
 
 flag-sets : (f : BoardFlag) → Sets (board_flag f)
-flag-sets f (SetBoard c (property.Flag g v)) b r = written-at false b.properties.flags 2 (board_flag_index f) (board_flag_index g) v r.flags (flag-within f)
+flag-sets f (SetBoard c (property.Flag g v)) b r =
+    written-at false b.properties.flags 2 (board_flag_index f) (board_flag_index g) v r.flags (flag-within f)
 flag-sets f (SetBoard c _) b r = refl
 flag-sets f _ b r = refl
 
@@ -82,7 +84,8 @@ pub is_rank : IsBoardField rank
 is_rank = record { sets = rank-sets; beside = λ b ss. refl }
 
 exit-sets : (f : Side) → Sets (exit f)
-exit-sets f (SetBoard c (property.Exit g v)) b r = written-at None b.properties.exits 4 (side_index f) (side_index g) v r.exits (side-within f)
+exit-sets f (SetBoard c (property.Exit g v)) b r =
+    written-at None b.properties.exits 4 (side_index f) (side_index g) v r.exits (side-within f)
 exit-sets f (SetBoard c _) b r = refl
 exit-sets f _ b r = refl
 
@@ -90,7 +93,8 @@ pub is_exit : (f : Side) → IsBoardField (exit f)
 is_exit f = record { sets = exit-sets f; beside = λ b ss. refl }
 
 text-sets : (f : BoardText) → Sets (board_text f)
-text-sets f (SetBoard c (property.Text g v)) b r = written-at [] b.properties.texts 2 (board_text_index f) (board_text_index g) v r.texts (text-within f)
+text-sets f (SetBoard c (property.Text g v)) b r =
+    written-at [] b.properties.texts 2 (board_text_index f) (board_text_index g) v r.texts (text-within f)
 text-sets f (SetBoard c _) b r = refl
 text-sets f _ b r = refl
 

@@ -28,7 +28,8 @@ use Rattle.zed_laws.proofs.TakenAlone.{OpensNone, good_own, opens_none}
 use Rattle.zed_laws.specs.Settled.{EarlierIsMadeBefore, EarlierDecide}
 
 -- an insertion makes no byte with an earlier stamp
-none-in : (a : ElemId) (s : Stamp) (n : ℕ) (bytes : List ℕ) → same_stamp s a.name.stamp ≡ false → list_any (λ x. same_element x.id a) (run_from s n bytes) ≡ false
+none-in : (a : ElemId) (s : Stamp) (n : ℕ) (bytes : List ℕ) → same_stamp s a.name.stamp ≡ false
+    → list_any (λ x. same_element x.id a) (run_from s n bytes) ≡ false
 none-in a s n [] h = refl
 none-in a s n (b ∷ bytes) h = rw h (none-in a s (n + 1) bytes h)
 
@@ -44,7 +45,8 @@ makes-none s TextAdd (text t) h = rw h refl
 makes-none s (TextInsert u after bytes) (element t a) h = rw (none-in a s 0 bytes h) (and_none (same_text u t))
 makes-none s _ _ h = refl
 
-grown-none : (made : Thing → Bool) (s : Stamp) (op : Op) (x : Thing) → OpensNone op → same_stamp s (stamp_of x) ≡ false → grown made s op x ≡ made x
+grown-none : (made : Thing → Bool) (s : Stamp) (op : Op) (x : Thing) → OpensNone op → same_stamp s (stamp_of x) ≡ false
+    → grown made s op x ≡ made x
 grown-none made s (Genesis bytes) x o h = absurd o
 grown-none made s op x o h = ap (λ b. b || made x) (makes-none s op x h)
 
@@ -55,7 +57,9 @@ has-step p e x o h = go (can p e) refl
     go true c = has-do_op e.stamp e.op p x c ∙ grown-none (has p) e.stamp e.op x o h
     go false c = has-hold p e x
 
-earlier_made : (p : Document) (x : Thing) (high : List Edit) → before (stamp_of x) genesis_stamp ≡ false → AllByRecursion (λ f. before (stamp_of x) f.stamp ≡ true) high → AllFit high → has (replay_on p high) x ≡ has p x
+earlier_made : (p : Document) (x : Thing) (high : List Edit) → before (stamp_of x) genesis_stamp ≡ false
+    → AllByRecursion (λ f. before (stamp_of x) f.stamp ≡ true) high → AllFit high
+    → has (replay_on p high) x ≡ has p x
 earlier_made p x [] n b f = refl
 earlier_made p x (e ∷ high) n b f =
     earlier_made (step p e) x high n b.1 f.1
@@ -65,14 +69,18 @@ pub earlier_is_made_before : EarlierIsMadeBefore
 earlier_is_made_before x low high n b f =
     ap (λ p. has p x) (replay_on-append empty_document low high) ∙ earlier_made (replay low) x high n b f
 
-later-too : (r s : Stamp) (high : List Edit) → before r s ≡ true → AllByRecursion (λ f. before s f.stamp ≡ true) high → AllByRecursion (λ f. before r f.stamp ≡ true) high
+later-too : (r s : Stamp) (high : List Edit) → before r s ≡ true → AllByRecursion (λ f. before s f.stamp ≡ true) high
+    → AllByRecursion (λ f. before r f.stamp ≡ true) high
 later-too r s [] h b = tt
 later-too r s (f ∷ high) h b = (grind (arith, h, b.0), later-too r s high h b.1)
 
 stamp-behind : (s : Stamp) → is_stamp s ≡ true → before s genesis_stamp ≡ false
 stamp-behind s h = grind (arith, h)
 
-all-same : (f g : Thing → Bool) (ts : List Thing) (s : Stamp) → list_all (λ t. is_stamp (stamp_of t)) ts ≡ true → list_all (λ t. before (stamp_of t) s) ts ≡ true → ((t : Thing) → is_stamp (stamp_of t) ≡ true → before (stamp_of t) s ≡ true → f t ≡ g t) → list_all f ts ≡ list_all g ts
+all-same : (f g : Thing → Bool) (ts : List Thing) (s : Stamp) → list_all (λ t. is_stamp (stamp_of t)) ts ≡ true
+    → list_all (λ t. before (stamp_of t) s) ts ≡ true
+    → ((t : Thing) → is_stamp (stamp_of t) ≡ true → before (stamp_of t) s ≡ true → f t ≡ g t)
+    → list_all f ts ≡ list_all g ts
 all-same f g [] s h b k = refl
 all-same f g (t ∷ ts) s h b k =
     let i = and_parts (is_stamp (stamp_of t)) (list_all (λ u. is_stamp (stamp_of u)) ts) h in

@@ -69,7 +69,8 @@ flag-within Ninth = refl
 flag-within Tenth = refl
 
 pub is_number : (f : HeaderNumber) → IsHeaderField (header_number f)
-is_number f (SetHeader (header.Number g n)) h r = written-at (pos 0) h.numbers 9 (header_number_index f) (header_number_index g) n r.numbers (number-within f)
+is_number f (SetHeader (header.Number g n)) h r =
+    written-at (pos 0) h.numbers 9 (header_number_index f) (header_number_index g) n r.numbers (number-within f)
 is_number f (SetHeader _) h r = refl
 is_number f _ h r = refl
 
@@ -101,11 +102,15 @@ is_flag k _ h r = refl
 -- ---- each is a register
 
 module _ {V : Type 0} (f : Field Header V) (law : IsHeaderField f) where
-  read-opened : (s : Stamp) (bytes : List ℕ) (r : Result Contents WorldError) (p : Plain) → IsWholeHeader p.header → Some (f.value (open_world s r p).header) ≡ option_or (option_or (option_map f.value (opened_header s r)) (f.set (Genesis bytes))) (Some (f.value p.header))
+  read-opened : (s : Stamp) (bytes : List ℕ) (r : Result Contents WorldError) (p : Plain) → IsWholeHeader p.header
+      → Some (f.value (open_world s r p).header)
+      ≡ option_or (option_or (option_map f.value (opened_header s r)) (f.set (Genesis bytes))) (Some (f.value p.header))
   read-opened s bytes (Ok w) p h = refl
   read-opened s bytes (Err e) p h = ap Some (law (Genesis bytes) p.header h) ∙ written (f.set (Genesis bytes)) (f.value p.header)
 
-  read-header : (s : Stamp) (op : Op) (p : Plain) → IsWholeHeader p.header → Some (f.value (do_op s op p).header) ≡ option_or (option_or (option_map f.value (made_header s op)) (f.set op)) (Some (f.value p.header))
+  read-header : (s : Stamp) (op : Op) (p : Plain) → IsWholeHeader p.header
+      → Some (f.value (do_op s op p).header)
+      ≡ option_or (option_or (option_map f.value (made_header s op)) (f.set op)) (Some (f.value p.header))
   read-header s (Genesis bytes) p h = read-opened s bytes (world_at bytes) p h
   read-header s op p h = ap Some (law op p.header h) ∙ written (f.set op) (f.value p.header)
 

@@ -38,11 +38,14 @@ pub held-all : (P : Edit → Type 0) (p : Plain) (es : List Edit) → AllByRecur
 held-all P p [] h = tt
 held-all P p (e ∷ es) h = go (can p e) (held-all P (step p e) es h.1)
   where
-    go : (b : Bool) → AllByRecursion P (held_on (step p e) es) → AllByRecursion P (cond b (held_on (step p e) es) (e ∷ held_on (step p e) es))
+    go : (b : Bool) → AllByRecursion P (held_on (step p e) es)
+        → AllByRecursion P (cond b (held_on (step p e) es) (e ∷ held_on (step p e) es))
     go true more = more
     go false more = (h.0, more)
 
-between : (e : Edit) (low high : List Edit) → AllByRecursion (λ f. before f.stamp e.stamp ≡ true) low → AllByRecursion (λ f. before e.stamp f.stamp ≡ true) high → with_edit e (low ++ high) ≡ low ++ e ∷ high
+between : (e : Edit) (low high : List Edit) → AllByRecursion (λ f. before f.stamp e.stamp ≡ true) low
+    → AllByRecursion (λ f. before e.stamp f.stamp ≡ true) high
+    → with_edit e (low ++ high) ≡ low ++ e ∷ high
 between e [] [] a b = refl
 between e [] (f ∷ high) a b = rw b.0 refl
 between e (f ∷ low) high a b =

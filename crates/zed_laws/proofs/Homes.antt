@@ -50,19 +50,27 @@ module _ (x : StatId) where
   on-none bs h = none_is (find (is_on x) bs) (find-any (is_on x) bs ∙ sym (any-stat (λ y. same_stat y.id x) bs) ∙ sym (find-any (λ y. same_stat y.id x) (stats_of bs)) ∙ ap is_some h)
 
   -- boards that come behind those that are there
-  joined : (bs more : List Board) → (find_stat x (stats_of bs) ≡ None) ⊎ (find_stat x (stats_of more) ≡ None) → option_map id_of (find (is_on x) (bs ++ more)) ≡ option_or (option_map id_of (find (is_on x) more)) (option_map id_of (find (is_on x) bs))
+  joined : (bs more : List Board) → (find_stat x (stats_of bs) ≡ None) ⊎ (find_stat x (stats_of more) ≡ None)
+      → option_map id_of (find (is_on x) (bs ++ more))
+      ≡ option_or (option_map id_of (find (is_on x) more)) (option_map id_of (find (is_on x) bs))
   joined bs more h =
-      let either : (find (is_on x) bs ≡ None) ⊎ (find (is_on x) more ≡ None) = elim h [ inl e ↦ inl (on-none bs e) | inr e ↦ inr (on-none more e) ] in
+      let either : (find (is_on x) bs ≡ None) ⊎ (find (is_on x) more ≡ None) =
+      elim h [ inl e ↦ inl (on-none bs e) | inr e ↦ inr (on-none more e) ] in
       ap (option_map id_of) (find-append (is_on x) bs more)
       ∙ value-made id_of (find (is_on x) bs) (find (is_on x) more) either
       ∙ ap (λ o. option_or o (option_map id_of (find (is_on x) bs))) (or-none (option_map id_of (find (is_on x) more)))
 
-  home-opened : (s : Stamp) (r : Result Contents WorldError) (p : Plain) → (find_stat x (all_stats p) ≡ None) ⊎ (find_stat x (stats_of (opened_from s r)) ≡ None) → option_map id_of (find (is_on x) (open_world s r p).boards) ≡ option_or (option_map id_of (find (is_on x) (opened_from s r))) (option_map id_of (find (is_on x) p.boards))
+  home-opened : (s : Stamp) (r : Result Contents WorldError) (p : Plain)
+      → (find_stat x (all_stats p) ≡ None) ⊎ (find_stat x (stats_of (opened_from s r)) ≡ None)
+      → option_map id_of (find (is_on x) (open_world s r p).boards)
+      ≡ option_or (option_map id_of (find (is_on x) (opened_from s r))) (option_map id_of (find (is_on x) p.boards))
   home-opened s (Err e) p h = refl
   home-opened s (Ok w) p h = joined p.boards (opened_boards s w.boards) h
 
   -- a change that keeps what is on a board
-  such-kept : (test : Board → Bool) (f : Board → Board) → ((b : Board) → is_on x (f b) ≡ is_on x b) → ((b : Board) → (f b).id ≡ b.id) → (bs : List Board) → option_map id_of (find (is_on x) (change_such test f bs)) ≡ option_map id_of (find (is_on x) bs)
+  such-kept : (test : Board → Bool) (f : Board → Board) → ((b : Board) → is_on x (f b) ≡ is_on x b) → ((b : Board) → (f b).id ≡ b.id)
+      → (bs : List Board)
+      → option_map id_of (find (is_on x) (change_such test f bs)) ≡ option_map id_of (find (is_on x) bs)
   such-kept test f on names bs = value-kept id_of (is_on x) (λ b. cond (test b) (f b) b) (λ b. stays b (test b)) (λ b. named b (test b)) bs
     where
       stays : (b : Board) (v : Bool) → is_on x (cond v (f b) b) ≡ is_on x b
@@ -73,11 +81,14 @@ module _ (x : StatId) where
       named b true = names b
       named b false = refl
 
-  stats-kept : (y : StatId) (f : Stat → Stat) → ((z : Stat) → same_stat (f z).id x ≡ same_stat z.id x) → (bs : List Board) → option_map id_of (find (is_on x) (map (change_stats_of y f) bs)) ≡ option_map id_of (find (is_on x) bs)
+  stats-kept : (y : StatId) (f : Stat → Stat) → ((z : Stat) → same_stat (f z).id x ≡ same_stat z.id x) → (bs : List Board)
+      → option_map id_of (find (is_on x) (map (change_stats_of y f) bs)) ≡ option_map id_of (find (is_on x) bs)
   stats-kept y f names bs = value-kept id_of (is_on x) (change_stats_of y f) (λ b. list_any-change (λ z. same_stat z.id x) (λ z. same_stat z.id y) f names b.stats) (λ b. refl) bs
 
   -- a new stat on a board that is there
-  first-home : (n : Stat) (d : BoardId) → same_stat n.id x ≡ true → (bs : List Board) → list_any (λ b. same_board b.id d) bs ≡ true → list_any (is_on x) bs ≡ false → option_map id_of (find (is_on x) (change_boards d (add_stat n) bs)) ≡ Some d
+  first-home : (n : Stat) (d : BoardId) → same_stat n.id x ≡ true → (bs : List Board) → list_any (λ b. same_board b.id d) bs ≡ true
+      → list_any (is_on x) bs ≡ false
+      → option_map id_of (find (is_on x) (change_boards d (add_stat n) bs)) ≡ Some d
   first-home n d this [] there none = absurd (cc)
   first-home n d this (b ∷ bs) there none = go (same_board b.id d) refl (is_on x b) refl (λ t m. first-home n d this bs t m)
     where
@@ -88,15 +99,22 @@ module _ (x : StatId) where
       on_it : is_on x (add_stat n b) ≡ true
       on_it = list_any-append (λ z. same_stat z.id x) b.stats (n ∷ []) ∙ ap (λ c. is_on x b || (c || false)) this ∙ or_true (is_on x b)
 
-      go : (v : Bool) → same_board b.id d ≡ v → (c : Bool) → is_on x b ≡ c → (list_any (λ b. same_board b.id d) bs ≡ true → list_any (is_on x) bs ≡ false → option_map id_of (find (is_on x) (change_boards d (add_stat n) bs)) ≡ Some d) → option_map id_of (find (is_on x) (cond v (add_stat n b) b ∷ change_boards d (add_stat n) bs)) ≡ Some d
-      go true v c k more = ap (λ t. option_map id_of (cond t (Some (add_stat n b)) (find (is_on x) (change_boards d (add_stat n) bs)))) on_it ∙ ap Some (same_board-true b.id d v)
+      go : (v : Bool) → same_board b.id d ≡ v → (c : Bool) → is_on x b ≡ c
+          → (list_any (λ b. same_board b.id d) bs ≡ true → list_any (is_on x) bs ≡ false → option_map id_of (find (is_on x) (change_boards d (add_stat n) bs)) ≡ Some d)
+          → option_map id_of (find (is_on x) (cond v (add_stat n b) b ∷ change_boards d (add_stat n) bs)) ≡ Some d
+      go true v c k more =
+          ap (λ t. option_map id_of (cond t (Some (add_stat n b)) (find (is_on x) (change_boards d (add_stat n) bs)))) on_it
+          ∙ ap Some (same_board-true b.id d v)
       go false v true k more = let e : (is_on x b || list_any (is_on x) bs) ≡ false = none in absurd (let m = rw k at e in cc)
       go false v false k more =
           let e : (is_on x b || list_any (is_on x) bs) ≡ false = none in
           let t : (same_board b.id d || list_any (λ c. same_board c.id d) bs) ≡ true = there in
           ap (λ u. option_map id_of (cond u (Some b) (find (is_on x) (change_boards d (add_stat n) bs)))) k ∙ more (rw v at t) (rw k at e)
 
-  home-added : (n : Stat) (d : BoardId) (p : Plain) → has p (board d) ≡ true → (find_stat x (all_stats p) ≡ None) ⊎ (find_stat x (n ∷ []) ≡ None) → option_map id_of (find (is_on x) (change_boards d (add_stat n) p.boards)) ≡ option_or (cond (same_stat n.id x) (Some d) None) (option_map id_of (find (is_on x) p.boards))
+  home-added : (n : Stat) (d : BoardId) (p : Plain) → has p (board d) ≡ true
+      → (find_stat x (all_stats p) ≡ None) ⊎ (find_stat x (n ∷ []) ≡ None)
+      → option_map id_of (find (is_on x) (change_boards d (add_stat n) p.boards))
+      ≡ option_or (cond (same_stat n.id x) (Some d) None) (option_map id_of (find (is_on x) p.boards))
   home-added n d p there fresh = go (same_stat n.id x) refl
     where
       nowhere : same_stat n.id x ≡ true → list_any (is_on x) p.boards ≡ false
@@ -108,16 +126,21 @@ module _ (x : StatId) where
       other : (b : Board) → same_stat n.id x ≡ false → is_on x (add_stat n b) ≡ is_on x b
       other b v = list_any-append (λ z. same_stat z.id x) b.stats (n ∷ []) ∙ ap (λ c. is_on x b || (c || false)) v ∙ or_false (is_on x b)
 
-      go : (v : Bool) → same_stat n.id x ≡ v → option_map id_of (find (is_on x) (change_boards d (add_stat n) p.boards)) ≡ option_or (cond v (Some d) None) (option_map id_of (find (is_on x) p.boards))
+      go : (v : Bool) → same_stat n.id x ≡ v
+          → option_map id_of (find (is_on x) (change_boards d (add_stat n) p.boards))
+          ≡ option_or (cond v (Some d) None) (option_map id_of (find (is_on x) p.boards))
       go true v = first-home n d v p.boards there (nowhere v)
       go false v = such-kept (λ c. same_board c.id d) (add_stat n) (λ b. other b v) (λ b. refl) p.boards
 
-  read-home : (s : Stamp) (op : Op) (p : Plain) → NamesPass (λ q. before q s) p → has_all p (names_of op) ≡ true → option_map id_of (find (is_on x) (do_op s op p).boards) ≡ option_or (made_home x s op) (option_map id_of (find (is_on x) p.boards))
+  read-home : (s : Stamp) (op : Op) (p : Plain) → NamesPass (λ q. before q s) p → has_all p (names_of op) ≡ true
+      → option_map id_of (find (is_on x) (do_op s op p).boards) ≡ option_or (made_home x s op) (option_map id_of (find (is_on x) p.boards))
   read-home s (Genesis bytes) p a c = home-opened s (world_at bytes) p (fresh-stat x s (Genesis bytes) p a)
-  read-home s (BoardAdd name) p a c = joined p.boards (new_board (board_of s 0) (stat_of s 0) name ∷ []) (fresh-stat x s (BoardAdd name) p a)
+  read-home s (BoardAdd name) p a c =
+      joined p.boards (new_board (board_of s 0) (stat_of s 0) name ∷ []) (fresh-stat x s (BoardAdd name) p a)
   read-home s (BoardRemove d) p a c = such-kept (λ b. same_board b.id d) remove_board (λ b. refl) (λ b. refl) p.boards
   read-home s (SetBoard d setting) p a c = such-kept (λ b. same_board b.id d) (set_board_property setting) (λ b. refl) (λ b. refl) p.boards
-  read-home s (SetCells d cells tile) p a c = such-kept (λ b. same_board b.id d) (set_board_cells cells tile) (λ b. refl) (λ b. refl) p.boards
+  read-home s (SetCells d cells tile) p a c =
+      such-kept (λ b. same_board b.id d) (set_board_cells cells tile) (λ b. refl) (λ b. refl) p.boards
   read-home s (StatAdd d fields) p a c =
       let there = and_parts (has p (board d)) (has_all p (target_named fields.p3 ++ text_named fields.text)) c in
       home-added (new_stat (stat_of s 0) false fields) d p there.0 (fresh-stat x s (StatAdd d fields) p a)

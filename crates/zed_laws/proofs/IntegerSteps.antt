@@ -49,7 +49,8 @@ one = omega arith
 
 -- ---- the header
 
-header_kept : (setting : HeaderSetting) (h : Header) → IsHeaderSetting setting → AllByRecursion IsInteger h.numbers → AllByRecursion IsInteger (set_header setting h).numbers
+header_kept : (setting : HeaderSetting) (h : Header) → IsHeaderSetting setting → AllByRecursion IsInteger h.numbers
+    → AllByRecursion IsInteger (set_header setting h).numbers
 header_kept (header.Number f n) h i r = all_set IsInteger h.numbers (header_number_index f) n i r
 header_kept (header.Key k b) h i r = r
 header_kept (header.Saved b) h i r = r
@@ -59,7 +60,8 @@ header_kept (header.Flag k s) h i r = r
 
 -- ---- boards and stats
 
-property_kept : (setting : BoardSetting) (b : Board) → IsBoardSetting setting → BoardHasIntegers b → BoardHasIntegers (set_board_property setting b)
+property_kept : (setting : BoardSetting) (b : Board) → IsBoardSetting setting → BoardHasIntegers b
+    → BoardHasIntegers (set_board_property setting b)
 property_kept (property.Byte f n) b i r = record { time_limit = r.time_limit; stats = r.stats }
 property_kept (property.Flag f n) b i r = record { time_limit = r.time_limit; stats = r.stats }
 property_kept (property.TimeLimit n) b i r = record { time_limit = i; stats = r.stats }
@@ -79,38 +81,47 @@ stat_kept (stat.Follower o) s i r = record { numbers = r.numbers; position = r.p
 stat_kept (stat.Leader o) s i r = record { numbers = r.numbers; position = r.position }
 stat_kept (stat.Text o) s i r = record { numbers = r.numbers; position = r.position }
 
-new_stat_kept : (id : StatId) (is_player : Bool) (fields : StatFields) → AllByRecursion IsInteger fields.numbers → StatHasIntegers (new_stat id is_player fields)
+new_stat_kept : (id : StatId) (is_player : Bool) (fields : StatFields) → AllByRecursion IsInteger fields.numbers
+    → StatHasIntegers (new_stat id is_player fields)
 new_stat_kept id is_player fields i = record { numbers = i; position = nought }
 
 new_board_kept : (id : BoardId) (player : StatId) (name : List ℕ) → BoardHasIntegers (new_board id player name)
-new_board_kept id player name = record { time_limit = nought; stats = (new_stat_kept player true player_fields (nought, (nought, (one, tt))), tt) }
+new_board_kept id player name =
+    record { time_limit = nought; stats = (new_stat_kept player true player_fields (nought, (nought, (one, tt))), tt) }
 
 added_kept : (s : Stat) → StatHasIntegers s → (b : Board) → BoardHasIntegers b → BoardHasIntegers (add_stat s b)
 added_kept s i b r = record { time_limit = r.time_limit; stats = all_joined StatHasIntegers b.stats (s ∷ []) r.stats (i, tt) }
 
-changed_kept : (id : StatId) (f : Stat → Stat) → ((s : Stat) → StatHasIntegers s → StatHasIntegers (f s)) → (b : Board) → BoardHasIntegers b → BoardHasIntegers (change_stats (change_such (λ x. same_stat x.id id) f) b)
+changed_kept : (id : StatId) (f : Stat → Stat) → ((s : Stat) → StatHasIntegers s → StatHasIntegers (f s)) → (b : Board) → BoardHasIntegers b
+    → BoardHasIntegers (change_stats (change_such (λ x. same_stat x.id id) f) b)
 changed_kept id f keeps b r = record { time_limit = r.time_limit; stats = each_changed StatHasIntegers (λ x. same_stat x.id id) f b.stats (λ s same h. keeps s h) r.stats }
 
 -- ---- the world of a file
 
-opened_stats : (s : Stamp) (m t : ℕ) (b : BoardData) (boards stats : ℕ) (tiles : List Tile) (j : ℕ) (lower xs : List StatData) → AreNormalStats boards stats tiles lower xs → AllByRecursion StatHasIntegers (map_from (opened_stat s m t b) j xs)
+opened_stats : (s : Stamp) (m t : ℕ) (b : BoardData) (boards stats : ℕ) (tiles : List Tile) (j : ℕ) (lower xs : List StatData)
+    → AreNormalStats boards stats tiles lower xs
+    → AllByRecursion StatHasIntegers (map_from (opened_stat s m t b) j xs)
 opened_stats s m t b boards stats tiles j lower [] h = tt
 opened_stats s m t b boards stats tiles j lower (x ∷ xs) h =
     (record { numbers = (h.0.step_x, (h.0.step_y, (h.0.cycle, tt))); position = h.0.position }, opened_stats s m t b boards stats tiles (j + 1) (lower ++ x ∷ []) xs h.1)
 
-all_opened : (s : Stamp) (n m t boards : ℕ) (bs : List BoardData) → AllByRecursion (IsNormalBoard boards) bs → AllByRecursion BoardHasIntegers (opened_boards_from s n m t bs)
+all_opened : (s : Stamp) (n m t boards : ℕ) (bs : List BoardData) → AllByRecursion (IsNormalBoard boards) bs
+    → AllByRecursion BoardHasIntegers (opened_boards_from s n m t bs)
 all_opened s n m t boards [] h = tt
 all_opened s n m t boards (b ∷ bs) h =
     (record { time_limit = h.0.properties.time_limit; stats = opened_stats s m t b boards (length b.stats) b.tiles 0 [] b.stats h.0.stats }, all_opened s (n + 1) (m + length b.stats) (t + programs_before (length b.stats) b.stats) boards bs h.1)
 
-world_kept : (s : Stamp) (r : Result Contents WorldError) (p : Plain) → ((w : Contents) → r ≡ Ok w → HasNormalParts w) → HasIntegers p → HasIntegers (open_world s r p)
+world_kept : (s : Stamp) (r : Result Contents WorldError) (p : Plain) → ((w : Contents) → r ≡ Ok w → HasNormalParts w) → HasIntegers p
+    → HasIntegers (open_world s r p)
 world_kept s (Err e) p normal h = h
 world_kept s (Ok w) p normal h =
     let n = normal w refl in
     let k = n.header in
     record {
-      header = (k.ammo, (k.gems, (k.health, (k.torches, (k.torch_ticks, (k.energizer_ticks, (k.score, (k.time_passed, (k.hundredths, tt)))))))));
-      boards = all_joined BoardHasIntegers p.boards (opened_boards s w.boards) h.boards (all_opened s 0 0 0 (length w.boards) w.boards n.boards);
+      header =
+          (k.ammo, (k.gems, (k.health, (k.torches, (k.torch_ticks, (k.energizer_ticks, (k.score, (k.time_passed, (k.hundredths, tt)))))))));
+      boards =
+          all_joined BoardHasIntegers p.boards (opened_boards s w.boards) h.boards (all_opened s 0 0 0 (length w.boards) w.boards n.boards);
     }
 
 -- ---- every edit

@@ -26,12 +26,14 @@ use Rattle.zed_laws.proofs.TextSteps.{elements_step, elements_steps, kill-run}
 use Rattle.zed_laws.proofs.LateInsertion.{there-steps, text_there, rising-high}
 use Rattle.zed_laws.proofs.DoneEdits.{all_done, AllCan, all_done-append, AllCan-tail, AllCan-none_held, replay_on-all_done}
 
-kill-put_after : (x : ByteRange) (a : Option ElemId) (run xs : List TextByte) → kill x run ≡ run → kill x (put_after a run xs) ≡ put_after a run (kill x xs)
+kill-put_after : (x : ByteRange) (a : Option ElemId) (run xs : List TextByte) → kill x run ≡ run
+    → kill x (put_after a run xs) ≡ put_after a run (kill x xs)
 kill-put_after x None run xs h = kill-append x run xs ∙ ap (λ front. front ++ kill x xs) h
 kill-put_after x (Some q) run [] h = refl
 kill-put_after x (Some q) run (y ∷ xs) h = go (same_element y.id q) refl (kill-put_after x (Some q) run xs h)
   where
-    go : (b : Bool) → same_element y.id q ≡ b → kill x (put_after (Some q) run xs) ≡ put_after (Some q) run (kill x xs) → kill x (put_after (Some q) run (y ∷ xs)) ≡ put_after (Some q) run (kill x (y ∷ xs))
+    go : (b : Bool) → same_element y.id q ≡ b → kill x (put_after (Some q) run xs) ≡ put_after (Some q) run (kill x xs)
+        → kill x (put_after (Some q) run (y ∷ xs)) ≡ put_after (Some q) run (kill x (y ∷ xs))
     go true b more = rw b (ap (λ rest. kill_within x y ∷ rest) (kill-append x run xs ∙ ap (λ front. front ++ kill x xs) h))
     go false b more = rw b (ap (λ rest. kill_within x y ∷ rest) more)
 
@@ -50,10 +52,13 @@ kill-kill x y (z ∷ xs) =
     ap (λ b. mk b ∷ kill x (kill y xs)) e ∙ ap (λ rest. kill_within y (kill_within x z) ∷ rest) (kill-kill x y xs)
 
 -- a later edit and marking dead: in either order
-kill-step : (t : TextId) (x : ByteRange) (r : Stamp) (op : Op) (xs : List TextByte) → same_stamp r x.stamp ≡ false → kill x (elements_step t r op xs) ≡ elements_step t r op (kill x xs)
+kill-step : (t : TextId) (x : ByteRange) (r : Stamp) (op : Op) (xs : List TextByte) → same_stamp r x.stamp ≡ false
+    → kill x (elements_step t r op xs) ≡ elements_step t r op (kill x xs)
 kill-step t x r (TextInsert u after bytes) xs h = go (same_text u t)
   where
-    go : (b : Bool) → kill x (cond b (put_after after (run_from r 0 bytes) xs) xs) ≡ cond b (put_after after (run_from r 0 bytes) (kill x xs)) (kill x xs)
+    go : (b : Bool)
+        → kill x (cond b (put_after after (run_from r 0 bytes) xs) xs)
+        ≡ cond b (put_after after (run_from r 0 bytes) (kill x xs)) (kill x xs)
     go true = kill-put_after x after (run_from r 0 bytes) xs (kill-run x r 0 bytes h)
     go false = refl
 kill-step t x r (TextDelete u y) xs h = go (same_text u t)
@@ -63,7 +68,9 @@ kill-step t x r (TextDelete u y) xs h = go (same_text u t)
     go false = refl
 kill-step t x r _ xs h = refl
 
-kill-steps : (t : TextId) (x : ByteRange) (s : Stamp) (es : List Edit) (xs : List TextByte) → before x.stamp s ≡ true → AllByRecursion (λ e. before s e.stamp ≡ true) es → kill x (elements_steps t es xs) ≡ elements_steps t es (kill x xs)
+kill-steps : (t : TextId) (x : ByteRange) (s : Stamp) (es : List Edit) (xs : List TextByte) → before x.stamp s ≡ true
+    → AllByRecursion (λ e. before s e.stamp ≡ true) es
+    → kill x (elements_steps t es xs) ≡ elements_steps t es (kill x xs)
 kill-steps t x s [] xs b h = refl
 kill-steps t x s (e ∷ es) xs b h =
     kill-steps t x s es (elements_step t e.stamp e.op xs) b h.1
@@ -76,7 +83,9 @@ first_earlier s t x h =
     l.0
 
 -- a deletion that comes late marks dead what it marks at its place among the edits
-pub deletion_among_done : (s : Stamp) (t : TextId) (x : ByteRange) (low high : List Edit) → IsRising (low ++ deletion s t x ∷ high) → held (low ++ high) ≡ [] → held (low ++ deletion s t x ∷ high) ≡ [] → names_earlier (deletion s t x) ≡ true → elements (replay (low ++ deletion s t x ∷ high)) t ≡ kill x (elements (replay (low ++ high)) t)
+pub deletion_among_done : (s : Stamp) (t : TextId) (x : ByteRange) (low high : List Edit) → IsRising (low ++ deletion s t x ∷ high)
+    → held (low ++ high) ≡ [] → held (low ++ deletion s t x ∷ high) ≡ [] → names_earlier (deletion s t x) ≡ true
+    → elements (replay (low ++ deletion s t x ∷ high)) t ≡ kill x (elements (replay (low ++ high)) t)
 deletion_among_done s t x low high r n m b =
     let e : Edit = deletion s t x in
     let p : Document = all_done empty_document low in

@@ -20,7 +20,9 @@ RisingWrites [] = Unit {0}
 RisingWrites (w ∷ ws) = AllByRecursion (λ x. before w.stamp x.stamp ≡ true) ws × RisingWrites ws
 
 -- (1) in rising order, the latest is the last
-latest_of-rising_from : {V : Type 0} (v : V) (w : Written V) (ws : List (Written V)) → AllByRecursion (λ x. before w.stamp x.stamp ≡ true) ws → RisingWrites ws → value_or v (latest_of (Some w) ws) ≡ last_value w.value ws
+latest_of-rising_from : {V : Type 0} (v : V) (w : Written V) (ws : List (Written V))
+    → AllByRecursion (λ x. before w.stamp x.stamp ≡ true) ws → RisingWrites ws
+    → value_or v (latest_of (Some w) ws) ≡ last_value w.value ws
 latest_of-rising_from v w [] h r = refl
 latest_of-rising_from v w (x ∷ ws) h r = rw h.0 (latest_of-rising_from v x ws r.0 r.1)
 
@@ -29,7 +31,9 @@ latest_of-rising v [] r = refl
 latest_of-rising v (w ∷ ws) r = latest_of-rising_from v w ws r.0 r.1
 
 -- (2) two writes of different stamps can change places
-keep_later-tests : {V : Type 0} (k a b : Written V) → same_stamp a.stamp b.stamp ≡ false → (ka kb ab ba : Bool) → before k.stamp a.stamp ≡ ka → before k.stamp b.stamp ≡ kb → before a.stamp b.stamp ≡ ab → before b.stamp a.stamp ≡ ba → keep_later (keep_later (Some k) a) b ≡ keep_later (keep_later (Some k) b) a
+keep_later-tests : {V : Type 0} (k a b : Written V) → same_stamp a.stamp b.stamp ≡ false → (ka kb ab ba : Bool)
+    → before k.stamp a.stamp ≡ ka → before k.stamp b.stamp ≡ kb → before a.stamp b.stamp ≡ ab → before b.stamp a.stamp ≡ ba
+    → keep_later (keep_later (Some k) a) b ≡ keep_later (keep_later (Some k) b) a
 keep_later-tests k a b d true true true true ka kb ab ba = absurd (grind (arith))
 keep_later-tests k a b d true true true false ka kb ab ba = rw (ka, kb) (rw (ab, ba))
 keep_later-tests k a b d true true false true ka kb ab ba = rw (ka, kb) (rw (ab, ba))
@@ -42,10 +46,12 @@ keep_later-tests k a b d false true ab' true ka kb ab ba =
 keep_later-tests k a b d false true ab' false ka kb ab ba = rw (ka, kb) (rw ba)
 keep_later-tests k a b d false false ab' ba' ka kb ab ba = rw (ka, kb) (rw ka)
 
-pub keep_later-swap : {V : Type 0} (o : Option (Written V)) (a b : Written V) → same_stamp a.stamp b.stamp ≡ false → keep_later (keep_later o a) b ≡ keep_later (keep_later o b) a
+pub keep_later-swap : {V : Type 0} (o : Option (Written V)) (a b : Written V) → same_stamp a.stamp b.stamp ≡ false
+    → keep_later (keep_later o a) b ≡ keep_later (keep_later o b) a
 keep_later-swap None a b d = go (before a.stamp b.stamp) refl (before b.stamp a.stamp) refl
   where
-    go : (ab : Bool) → before a.stamp b.stamp ≡ ab → (ba : Bool) → before b.stamp a.stamp ≡ ba → keep_later (Some a) b ≡ keep_later (Some b) a
+    go : (ab : Bool) → before a.stamp b.stamp ≡ ab → (ba : Bool) → before b.stamp a.stamp ≡ ba
+        → keep_later (Some a) b ≡ keep_later (Some b) a
     go true ab true ba = absurd (grind (arith))
     go true ab false ba = rw (ab, ba)
     go false ab true ba = rw (ab, ba)
@@ -54,7 +60,9 @@ keep_later-swap (Some k) a b d =
     keep_later-tests k a b d (before k.stamp a.stamp) (before k.stamp b.stamp) (before a.stamp b.stamp) (before b.stamp a.stamp) refl refl refl refl
 
 -- (3) one more write, anywhere in the list, is kept only if it is later than what is kept
-pub latest_of-late : {V : Type 0} (o : Option (Written V)) (w : Written V) (ws : List (Written V)) → AllByRecursion (λ x. same_stamp w.stamp x.stamp ≡ false) ws → latest_of (keep_later o w) ws ≡ keep_later (latest_of o ws) w
+pub latest_of-late : {V : Type 0} (o : Option (Written V)) (w : Written V) (ws : List (Written V))
+    → AllByRecursion (λ x. same_stamp w.stamp x.stamp ≡ false) ws
+    → latest_of (keep_later o w) ws ≡ keep_later (latest_of o ws) w
 latest_of-late o w [] d = refl
 latest_of-late o w (x ∷ ws) d =
     ap (λ k. latest_of k ws) (keep_later-swap o w x d.0) ∙ latest_of-late (keep_later o x) w ws d.1
@@ -63,16 +71,20 @@ latest_of-append : {V : Type 0} (o : Option (Written V)) (xs ys : List (Written 
 latest_of-append o [] ys = refl
 latest_of-append o (x ∷ xs) ys = latest_of-append (keep_later o x) xs ys
 
-pub latest_of-insert : {V : Type 0} (o : Option (Written V)) (w : Written V) (low high : List (Written V)) → AllByRecursion (λ x. same_stamp w.stamp x.stamp ≡ false) high → latest_of o (low ++ w ∷ high) ≡ keep_later (latest_of o (low ++ high)) w
+pub latest_of-insert : {V : Type 0} (o : Option (Written V)) (w : Written V) (low high : List (Written V))
+    → AllByRecursion (λ x. same_stamp w.stamp x.stamp ≡ false) high
+    → latest_of o (low ++ w ∷ high) ≡ keep_later (latest_of o (low ++ high)) w
 latest_of-insert o w low high d = rw (latest_of-append, latest_of-append) (latest_of-late (latest_of o low) w high d)
 
 module _ {V : Type 0} (writes : Edit → Option V) where
   -- what holds of the stamps of edits holds of those of their writes
-  writes-all : (P Q : Stamp → Type 0) → ((t : Stamp) → P t → Q t) → (es : List Edit) → AllByRecursion (λ e. P e.stamp) es → AllByRecursion (λ w. Q w.stamp) (writes_of writes es)
+  writes-all : (P Q : Stamp → Type 0) → ((t : Stamp) → P t → Q t) → (es : List Edit) → AllByRecursion (λ e. P e.stamp) es
+      → AllByRecursion (λ w. Q w.stamp) (writes_of writes es)
   writes-all P Q law [] h = tt
   writes-all P Q law (e ∷ es) h = go (writes e) refl (writes-all P Q law es h.1)
     where
-      go : (o : Option V) → writes e ≡ o → AllByRecursion (λ w. Q w.stamp) (writes_of writes es) → AllByRecursion (λ w. Q w.stamp) (writes_of writes (e ∷ es))
+      go : (o : Option V) → writes e ≡ o → AllByRecursion (λ w. Q w.stamp) (writes_of writes es)
+          → AllByRecursion (λ w. Q w.stamp) (writes_of writes (e ∷ es))
       go None o more = rw o more
       go (Some v) o more = rw o (law e.stamp h.0, more)
 
@@ -88,13 +100,17 @@ module _ {V : Type 0} (writes : Edit → Option V) where
   writes-append low high = filter_map-append (λ e. option_map (written_at e.stamp) (writes e)) low high
 
   -- one more edit at its place: the later of what was kept and what it writes
-  latest-insert : (e : Edit) (low high : List Edit) → AllByRecursion (λ f. before e.stamp f.stamp ≡ true) high → latest_of None (writes_of writes (low ++ e ∷ high)) ≡ kept_after e.stamp (latest_of None (writes_of writes (low ++ high))) (writes e)
+  latest-insert : (e : Edit) (low high : List Edit) → AllByRecursion (λ f. before e.stamp f.stamp ≡ true) high
+      → latest_of None (writes_of writes (low ++ e ∷ high))
+      ≡ kept_after e.stamp (latest_of None (writes_of writes (low ++ high))) (writes e)
   latest-insert e low high h =
       ap (latest_of None) (writes-append low (e ∷ high))
       ∙ go (writes e) refl
       ∙ ap (λ ws. kept_after e.stamp (latest_of None ws) (writes e)) (sym (writes-append low high))
     where
-      go : (o : Option V) → writes e ≡ o → latest_of None (writes_of writes low ++ writes_of writes (e ∷ high)) ≡ kept_after e.stamp (latest_of None (writes_of writes low ++ writes_of writes high)) (writes e)
+      go : (o : Option V) → writes e ≡ o
+          → latest_of None (writes_of writes low ++ writes_of writes (e ∷ high))
+          ≡ kept_after e.stamp (latest_of None (writes_of writes low ++ writes_of writes high)) (writes e)
       go None o = rw o refl
       go (Some v) o = rw o (latest_of-insert None (written_at e.stamp v) (writes_of writes low) (writes_of writes high) (writes-all (λ t. before e.stamp t ≡ true) (λ t. same_stamp e.stamp t ≡ false) (λ t later. before_differs e.stamp t later) high h))
 
@@ -102,7 +118,8 @@ taken-all : (P : Edit → Type 0) (p : Document) (es : List Edit) → AllByRecur
 taken-all P p [] h = tt
 taken-all P p (e ∷ es) h = go (can p e) (taken-all P (step p e) es h.1)
   where
-    go : (b : Bool) → AllByRecursion P (taken_on (step p e) es) → AllByRecursion P (cond b (e ∷ taken_on (step p e) es) (taken_on (step p e) es))
+    go : (b : Bool) → AllByRecursion P (taken_on (step p e) es)
+        → AllByRecursion P (cond b (e ∷ taken_on (step p e) es) (taken_on (step p e) es))
     go true more = (h.0, more)
     go false more = more
 

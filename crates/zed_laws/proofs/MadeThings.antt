@@ -56,7 +56,8 @@ list_any-push : {X : Type 0} (q : X → Bool) (xs : List X) (y : X) → list_any
 list_any-push q xs y = or_turned q xs (y ∷ []) ∙ ap (λ b. b || list_any q xs) (or_false (q y))
 
 -- members that keep a test
-list_any-map_kept : {X : Type 0} (q : X → Bool) (f : X → X) → ((x : X) → q (f x) ≡ q x) → (xs : List X) → list_any q (map f xs) ≡ list_any q xs
+list_any-map_kept : {X : Type 0} (q : X → Bool) (f : X → X) → ((x : X) → q (f x) ≡ q x) → (xs : List X)
+    → list_any q (map f xs) ≡ list_any q xs
 list_any-map_kept q f k [] = refl
 list_any-map_kept q f k (x ∷ xs) = ap (λ b. b || list_any q (map f xs)) (k x) ∙ ap (λ b. q x || b) (list_any-map_kept q f k xs)
 
@@ -67,7 +68,8 @@ such_kept q p f k x = go (p x)
     go true = k x
     go false = refl
 
-pub list_any-change : {X : Type 0} (q p : X → Bool) (f : X → X) → ((x : X) → q (f x) ≡ q x) → (xs : List X) → list_any q (change_such p f xs) ≡ list_any q xs
+pub list_any-change : {X : Type 0} (q p : X → Bool) (f : X → X) → ((x : X) → q (f x) ≡ q x) → (xs : List X)
+    → list_any q (change_such p f xs) ≡ list_any q xs
 list_any-change q p f k xs = list_any-map_kept q (λ x. cond (p x) (f x) x) (such_kept q p f k) xs
 
 pub find-any : {X : Type 0} (q : X → Bool) (xs : List X) → is_some (find q xs) ≡ list_any q xs
@@ -101,11 +103,17 @@ or_other true true r = refl
 or_other true false r = refl
 or_other false y r = refl
 
-list_any-add_stat : (s : StatId) (n : Stat) (b : BoardId) (bs : List Board) → list_any (any_stat s) (change_such (λ c. same_board c.id b) (add_stat n) bs) ≡ ((list_any (λ c. same_board c.id b) bs && same_stat n.id s) || list_any (any_stat s) bs)
+list_any-add_stat : (s : StatId) (n : Stat) (b : BoardId) (bs : List Board)
+    → list_any (any_stat s) (change_such (λ c. same_board c.id b) (add_stat n) bs)
+    ≡ ((list_any (λ c. same_board c.id b) bs && same_stat n.id s) || list_any (any_stat s) bs)
 list_any-add_stat s n b [] = refl
 list_any-add_stat s n b (c ∷ cs) = go (same_board c.id b) (list_any-add_stat s n b cs)
   where
-    go : (v : Bool) → list_any (any_stat s) (change_such (λ d. same_board d.id b) (add_stat n) cs) ≡ ((list_any (λ d. same_board d.id b) cs && same_stat n.id s) || list_any (any_stat s) cs) → (any_stat s (cond v (add_stat n c) c) || list_any (any_stat s) (change_such (λ d. same_board d.id b) (add_stat n) cs)) ≡ (((v || list_any (λ d. same_board d.id b) cs) && same_stat n.id s) || (any_stat s c || list_any (any_stat s) cs))
+    go : (v : Bool)
+        → list_any (any_stat s) (change_such (λ d. same_board d.id b) (add_stat n) cs)
+        ≡ ((list_any (λ d. same_board d.id b) cs && same_stat n.id s) || list_any (any_stat s) cs)
+        → (any_stat s (cond v (add_stat n c) c) || list_any (any_stat s) (change_such (λ d. same_board d.id b) (add_stat n) cs))
+        ≡ (((v || list_any (λ d. same_board d.id b) cs) && same_stat n.id s) || (any_stat s c || list_any (any_stat s) cs))
     go true more =
         ap (λ m. m || list_any (any_stat s) (change_such (λ d. same_board d.id b) (add_stat n) cs)) (list_any-push (λ x. same_stat x.id s) c.stats n)
         ∙ ap (λ m. (same_stat n.id s || any_stat s c) || m) more
@@ -123,7 +131,8 @@ set_stat-id b (Number f n) x = with_number-id (stat_number_index f)
     with_number-id None = refl
 set_stat-id b _ x = refl
 
-change_stats-any : (s y : StatId) (f : Stat → Stat) → ((x : Stat) → same_stat (f x).id s ≡ same_stat x.id s) → (bs : List Board) → list_any (any_stat s) (map (change_stats (change_such (λ x. same_stat x.id y) f)) bs) ≡ list_any (any_stat s) bs
+change_stats-any : (s y : StatId) (f : Stat → Stat) → ((x : Stat) → same_stat (f x).id s ≡ same_stat x.id s) → (bs : List Board)
+    → list_any (any_stat s) (map (change_stats (change_such (λ x. same_stat x.id y) f)) bs) ≡ list_any (any_stat s) bs
 change_stats-any s y f k bs =
     list_any-map_kept (any_stat s) (change_stats (change_such (λ x. same_stat x.id y) f)) (λ b. list_any-change (λ x. same_stat x.id s) (λ x. same_stat x.id y) f k b.stats) bs
 
@@ -131,41 +140,55 @@ change_stats-any s y f k bs =
 abbrev pub has_in : Option Text → ElemId → Bool
 has_in o a = list_any (λ x. same_element x.id a) (elements_in o)
 
-list_any-behind : (q : TextByte → Bool) (a : ElemId) (run xs : List TextByte) → list_any (λ x. same_element x.id a) xs ≡ true → list_any q (behind a (λ rest. run ++ rest) xs) ≡ (list_any q run || list_any q xs)
+list_any-behind : (q : TextByte → Bool) (a : ElemId) (run xs : List TextByte) → list_any (λ x. same_element x.id a) xs ≡ true
+    → list_any q (behind a (λ rest. run ++ rest) xs) ≡ (list_any q run || list_any q xs)
 list_any-behind q a run [] h = absurd (cc)
 list_any-behind q a run (x ∷ xs) h = go (λ e. list_any-behind q a run xs e) (same_element x.id a) refl
   where
-    go : (list_any (λ x. same_element x.id a) xs ≡ true → list_any q (behind a (λ rest. run ++ rest) xs) ≡ (list_any q run || list_any q xs)) → (b : Bool) → same_element x.id a ≡ b → list_any q (behind a (λ rest. run ++ rest) (x ∷ xs)) ≡ (list_any q run || list_any q (x ∷ xs))
+    go : (list_any (λ x. same_element x.id a) xs ≡ true → list_any q (behind a (λ rest. run ++ rest) xs) ≡ (list_any q run || list_any q xs))
+        → (b : Bool) → same_element x.id a ≡ b
+        → list_any q (behind a (λ rest. run ++ rest) (x ∷ xs)) ≡ (list_any q run || list_any q (x ∷ xs))
     go more true b = rw b (ap (λ c. q x || c) (or_turned q run xs) ∙ or_rotate (q x) (list_any q xs) (list_any q run))
     go more false b = rw b (ap (λ c. q x || c) (more (rw b at h)) ∙ or_swap (q x) (list_any q run) (list_any q xs))
 
-list_any-kill : (a : ElemId) (r : ByteRange) (xs : List TextByte) → list_any (λ y. same_element y.id a) (kill r xs) ≡ list_any (λ y. same_element y.id a) xs
+list_any-kill : (a : ElemId) (r : ByteRange) (xs : List TextByte)
+    → list_any (λ y. same_element y.id a) (kill r xs) ≡ list_any (λ y. same_element y.id a) xs
 list_any-kill a r [] = refl
 list_any-kill a r (y ∷ xs) = ap (λ c. same_element y.id a || c) (list_any-kill a r xs)
 
 -- an insertion makes its bytes, where its text and its place are there
-has_in-put : (after : Option ElemId) (a : ElemId) (run : List TextByte) (u : TextId) (p : Document) (x : Text) → find_text u p.texts ≡ Some x → has_all p (element_named u after) ≡ true → has_in (Some (change_elements (put_after after run) x)) a ≡ (list_any (λ y. same_element y.id a) run || has_in (Some x) a)
+has_in-put : (after : Option ElemId) (a : ElemId) (run : List TextByte) (u : TextId) (p : Document) (x : Text)
+    → find_text u p.texts ≡ Some x → has_all p (element_named u after) ≡ true
+    → has_in (Some (change_elements (put_after after run) x)) a ≡ (list_any (λ y. same_element y.id a) run || has_in (Some x) a)
 has_in-put None a run u p x e c = list_any-append (λ y. same_element y.id a) run x.elements
 has_in-put (Some y) a run u p x e c =
     let h = and_parts (has p (element u y)) true c in
     let there = rw e at h.0 in
     list_any-behind (λ z. same_element z.id a) y run x.elements there
 
-has_in-insert : (t u : TextId) (after : Option ElemId) (a : ElemId) (run : List TextByte) (p : Document) → has_all p (text u ∷ element_named u after) ≡ true → has_in (cond (same_text u t) (map_option (change_elements (put_after after run)) (find_text t p.texts)) (find_text t p.texts)) a ≡ ((same_text u t && list_any (λ x. same_element x.id a) run) || has_in (find_text t p.texts) a)
+has_in-insert : (t u : TextId) (after : Option ElemId) (a : ElemId) (run : List TextByte) (p : Document)
+    → has_all p (text u ∷ element_named u after) ≡ true
+    → has_in (cond (same_text u t) (map_option (change_elements (put_after after run)) (find_text t p.texts)) (find_text t p.texts)) a
+    ≡ ((same_text u t && list_any (λ x. same_element x.id a) run) || has_in (find_text t p.texts) a)
 has_in-insert t u after a run p c = go (same_text u t) refl
   where
-    there : same_text u t ≡ true → has_in (map_option (change_elements (put_after after run)) (find_text t p.texts)) a ≡ (list_any (λ x. same_element x.id a) run || has_in (find_text t p.texts) a)
+    there : same_text u t ≡ true
+        → has_in (map_option (change_elements (put_after after run)) (find_text t p.texts)) a
+        ≡ (list_any (λ x. same_element x.id a) run || has_in (find_text t p.texts) a)
     there same =
         let h = and_parts (has p (text u)) (has_all p (element_named u after)) c in
         let f = list_any-first (λ x. same_text x.id u) p.texts h.0 in
         let same' = same_text-true u t same in
         rw (← same', f.1) (has_in-put after a run u p f.0 f.1 h.1)
 
-    go : (b : Bool) → same_text u t ≡ b → has_in (cond (same_text u t) (map_option (change_elements (put_after after run)) (find_text t p.texts)) (find_text t p.texts)) a ≡ ((same_text u t && list_any (λ x. same_element x.id a) run) || has_in (find_text t p.texts) a)
+    go : (b : Bool) → same_text u t ≡ b
+        → has_in (cond (same_text u t) (map_option (change_elements (put_after after run)) (find_text t p.texts)) (find_text t p.texts)) a
+        ≡ ((same_text u t && list_any (λ x. same_element x.id a) run) || has_in (find_text t p.texts) a)
     go true b = rw b (there b)
     go false b = rw b
 
-has_in-new : (t : TextId) (s : Stamp) (a : ElemId) (o : Option Text) → has_in (option_or o (find_text t (record { id = text_of s 0; elements = [] } ∷ []))) a ≡ has_in o a
+has_in-new : (t : TextId) (s : Stamp) (a : ElemId) (o : Option Text)
+    → has_in (option_or o (find_text t (record { id = text_of s 0; elements = [] } ∷ []))) a ≡ has_in o a
 has_in-new t s a (Some x) = refl
 has_in-new t s a None = go (same_text (text_of s 0) t)
   where
@@ -173,7 +196,8 @@ has_in-new t s a None = go (same_text (text_of s 0) t)
     go true = refl
     go false = refl
 
-has_in-kill : (b : Bool) (a : ElemId) (r : ByteRange) (o : Option Text) → has_in (cond b (map_option (change_elements (kill r)) o) o) a ≡ has_in o a
+has_in-kill : (b : Bool) (a : ElemId) (r : ByteRange) (o : Option Text)
+    → has_in (cond b (map_option (change_elements (kill r)) o) o) a ≡ has_in o a
 has_in-kill true a r None = refl
 has_in-kill true a r (Some x) = list_any-kill a r x.elements
 has_in-kill false a r o = refl
@@ -208,32 +232,46 @@ has-opened s (Ok w) p (element t a) =
     ∙ go (find_text t p.texts)
     ∙ ap (λ b. cond b (has p (element t a)) (has_in (find_text t (opened_texts s w.boards)) a)) (find-any (λ x. same_text x.id t) p.texts)
   where
-    go : (o : Option Text) → has_in (option_or o (find_text t (opened_texts s w.boards))) a ≡ cond (is_some o) (has_in o a) (has_in (find_text t (opened_texts s w.boards)) a)
+    go : (o : Option Text)
+        → has_in (option_or o (find_text t (opened_texts s w.boards))) a
+        ≡ cond (is_some o) (has_in o a) (has_in (find_text t (opened_texts s w.boards)) a)
     go (Some x) = refl
     go None = refl
 
-pub has-do_op : (s : Stamp) (op : Op) (p : Document) (x : Thing) → has_all p (names_of op) ≡ true → has (do_op s op p) x ≡ grown (has p) s op x
+pub has-do_op : (s : Stamp) (op : Op) (p : Document) (x : Thing) → has_all p (names_of op) ≡ true
+    → has (do_op s op p) x ≡ grown (has p) s op x
 has-do_op s (Genesis bytes) p x c = has-opened s (world_at bytes) p x
 has-do_op s (BoardAdd name) p (board b) c = list_any-push (λ x. same_board x.id b) p.boards (new_board (board_of s 0) (stat_of s 0) name)
 has-do_op s (BoardAdd name) p (stat x) c = list_any-push (any_stat x) p.boards (new_board (board_of s 0) (stat_of s 0) name)
-has-do_op s (BoardRemove y) p (board b) c = list_any-change (λ x. same_board x.id b) (λ x. same_board x.id y) remove_board (λ x. refl) p.boards
+has-do_op s (BoardRemove y) p (board b) c =
+    list_any-change (λ x. same_board x.id b) (λ x. same_board x.id y) remove_board (λ x. refl) p.boards
 has-do_op s (BoardRemove y) p (stat z) c = list_any-change (any_stat z) (λ x. same_board x.id y) remove_board (λ x. refl) p.boards
-has-do_op s (SetBoard y setting) p (board b) c = list_any-change (λ x. same_board x.id b) (λ x. same_board x.id y) (set_board_property setting) (λ x. refl) p.boards
-has-do_op s (SetBoard y setting) p (stat z) c = list_any-change (any_stat z) (λ x. same_board x.id y) (set_board_property setting) (λ x. refl) p.boards
-has-do_op s (SetCells y r tile) p (board b) c = list_any-change (λ x. same_board x.id b) (λ x. same_board x.id y) (set_board_cells r tile) (λ x. refl) p.boards
-has-do_op s (SetCells y r tile) p (stat z) c = list_any-change (any_stat z) (λ x. same_board x.id y) (set_board_cells r tile) (λ x. refl) p.boards
-has-do_op s (StatAdd y fields) p (board b) c = list_any-change (λ x. same_board x.id b) (λ x. same_board x.id y) (add_stat (new_stat (stat_of s 0) false fields)) (λ x. refl) p.boards
+has-do_op s (SetBoard y setting) p (board b) c =
+    list_any-change (λ x. same_board x.id b) (λ x. same_board x.id y) (set_board_property setting) (λ x. refl) p.boards
+has-do_op s (SetBoard y setting) p (stat z) c =
+    list_any-change (any_stat z) (λ x. same_board x.id y) (set_board_property setting) (λ x. refl) p.boards
+has-do_op s (SetCells y r tile) p (board b) c =
+    list_any-change (λ x. same_board x.id b) (λ x. same_board x.id y) (set_board_cells r tile) (λ x. refl) p.boards
+has-do_op s (SetCells y r tile) p (stat z) c =
+    list_any-change (any_stat z) (λ x. same_board x.id y) (set_board_cells r tile) (λ x. refl) p.boards
+has-do_op s (StatAdd y fields) p (board b) c =
+    list_any-change (λ x. same_board x.id b) (λ x. same_board x.id y) (add_stat (new_stat (stat_of s 0) false fields)) (λ x. refl) p.boards
 has-do_op s (StatAdd y fields) p (stat z) c =
     let h = and_parts (has p (board y)) (has_all p (target_named fields.p3 ++ text_named fields.text)) c in
     list_any-add_stat z (new_stat (stat_of s 0) false fields) y p.boards ∙ ap (λ b. (b && same_stat (stat_of s 0) z) || has p (stat z)) h.0
-has-do_op s (StatRemove y) p (board b) c = list_any-map_kept (λ x. same_board x.id b) (change_stats (change_such (λ x. same_stat x.id y) remove_stat)) (λ x. refl) p.boards
+has-do_op s (StatRemove y) p (board b) c =
+    list_any-map_kept (λ x. same_board x.id b) (change_stats (change_such (λ x. same_stat x.id y) remove_stat)) (λ x. refl) p.boards
 has-do_op s (StatRemove y) p (stat z) c = change_stats-any z y remove_stat (λ x. refl) p.boards
-has-do_op s (SetStat y setting) p (board b) c = list_any-map_kept (λ x. same_board x.id b) (change_stats (change_such (λ x. same_stat x.id y) (set_stat setting))) (λ x. refl) p.boards
+has-do_op s (SetStat y setting) p (board b) c =
+    list_any-map_kept (λ x. same_board x.id b) (change_stats (change_such (λ x. same_stat x.id y) (set_stat setting))) (λ x. refl) p.boards
 has-do_op s (SetStat y setting) p (stat z) c = change_stats-any z y (set_stat setting) (set_stat-id z setting) p.boards
 has-do_op s TextAdd p (text b) c = list_any-push (λ x. same_text x.id b) p.texts (record { id = text_of s 0; elements = [] })
 has-do_op s TextAdd p (element t a) c = rw (find_text-do_op t s TextAdd p) (has_in-new t s a (find_text t p.texts))
 has-do_op s (TextInsert u after bytes) p (text b) c = list_any-change (λ x. same_text x.id b) (λ x. same_text x.id u) (change_elements (put_after after (run_from s 0 bytes))) (λ x. refl) p.texts
-has-do_op s (TextInsert u after bytes) p (element t a) c = rw (find_text-do_op t s (TextInsert u after bytes) p) (has_in-insert t u after a (run_from s 0 bytes) p c)
-has-do_op s (TextDelete u r) p (text b) c = list_any-change (λ x. same_text x.id b) (λ x. same_text x.id u) (change_elements (kill r)) (λ x. refl) p.texts
-has-do_op s (TextDelete u r) p (element t a) c = rw (find_text-do_op t s (TextDelete u r) p) (has_in-kill (same_text u t) a r (find_text t p.texts))
+has-do_op s (TextInsert u after bytes) p (element t a) c =
+    rw (find_text-do_op t s (TextInsert u after bytes) p) (has_in-insert t u after a (run_from s 0 bytes) p c)
+has-do_op s (TextDelete u r) p (text b) c =
+    list_any-change (λ x. same_text x.id b) (λ x. same_text x.id u) (change_elements (kill r)) (λ x. refl) p.texts
+has-do_op s (TextDelete u r) p (element t a) c =
+    rw (find_text-do_op t s (TextDelete u r) p) (has_in-kill (same_text u t) a r (find_text t p.texts))
 has-do_op s _ p _ c = refl

@@ -44,7 +44,9 @@ use Rattle.zed_laws.proofs.StatReads.{any-stat}
 -- ---- each thing has the stamp of an edit
 
 -- a thing that is there passes a test that all stamps pass
-passes : {X : Type 0} (name : X → Name) (test : Stamp → Bool) (n : Name) (xs : List X) → StampsAre (λ x. (name x).stamp) test xs → list_any (λ x. same_name (name x) n) xs ≡ true → test n.stamp ≡ true
+passes : {X : Type 0} (name : X → Name) (test : Stamp → Bool) (n : Name) (xs : List X) → StampsAre (λ x. (name x).stamp) test xs
+    → list_any (λ x. same_name (name x) n) xs ≡ true
+    → test n.stamp ≡ true
 passes name test n xs a h = go (test n.stamp) refl
   where
     go : (b : Bool) → test n.stamp ≡ b → b ≡ true
@@ -75,7 +77,8 @@ things_are_of_edits test es x h = go x
 
 -- ---- what each edit makes
 
-fresh-text : (t : TextId) (s : Stamp) (w : Contents) (p : Plain) → NamesPass (λ q. before q s) p → (find_text t p.texts ≡ None) ⊎ (find_text t (opened_texts s w.boards) ≡ None)
+fresh-text : (t : TextId) (s : Stamp) (w : Contents) (p : Plain) → NamesPass (λ q. before q s) p
+    → (find_text t p.texts ≡ None) ⊎ (find_text t (opened_texts s w.boards) ≡ None)
 fresh-text t s w p a = go (same_stamp t.name.stamp s) refl
   where
     go : (v : Bool) → same_stamp t.name.stamp s ≡ v → (find_text t p.texts ≡ None) ⊎ (find_text t (opened_texts s w.boards) ≡ None)
@@ -83,7 +86,9 @@ fresh-text t s w p a = go (same_stamp t.name.stamp s) refl
     go false v = inr (unfound (λ (x : Text). x.id.name) (λ q. same_stamp q s) t.name (opened_texts s w.boards) (pass-opened_texts (λ q. same_stamp q s) s 0 (programs_of w.boards) (same_stamp-itself s)) v)
 
 -- a byte is in a text that was there, or in one that is made
-byte-opened : (t : TextId) (a : ElemId) (p : Plain) (o : Option Text) → (find_text t p.texts ≡ None) ⊎ (o ≡ None) → cond (has p (text t)) (has p (element t a)) (list_any (λ x. same_element x.id a) (elements_in o)) ≡ (list_any (λ x. same_element x.id a) (elements_in o) || has p (element t a))
+byte-opened : (t : TextId) (a : ElemId) (p : Plain) (o : Option Text) → (find_text t p.texts ≡ None) ⊎ (o ≡ None)
+    → cond (has p (text t)) (has p (element t a)) (list_any (λ x. same_element x.id a) (elements_in o))
+    ≡ (list_any (λ x. same_element x.id a) (elements_in o) || has p (element t a))
 byte-opened t a p o fresh = go (has p (text t)) refl (has p (element t a)) refl
   where
     absent : has p (text t) ≡ true → o ≡ None
@@ -94,12 +99,15 @@ byte-opened t a p o fresh = go (has p (text t)) refl (has p (element t a)) refl
     there : Bool → Option Text → Bool
     there c m = list_any (λ x. same_element x.id a) (elements_in m) || c
 
-    go : (b : Bool) → has p (text t) ≡ b → (c : Bool) → has p (element t a) ≡ c → cond b c (list_any (λ x. same_element x.id a) (elements_in o)) ≡ (list_any (λ x. same_element x.id a) (elements_in o) || c)
+    go : (b : Bool) → has p (text t) ≡ b → (c : Bool) → has p (element t a) ≡ c
+        → cond b c (list_any (λ x. same_element x.id a) (elements_in o)) ≡ (list_any (λ x. same_element x.id a) (elements_in o) || c)
     go true b c d = sym (ap (there c) (absent b))
     go false b true d = let k = text_of_byte p t a d in absurd (cc)
     go false b false d = sym (or_false (list_any (λ x. same_element x.id a) (elements_in o)))
 
-made-opened : (s : Stamp) (r : Result Contents WorldError) (p : Plain) (x : Thing) → NamesPass (λ q. before q s) p → (bytes : List ℕ) → world_at bytes ≡ r → opened (has p) s r x ≡ (op_makes s (Genesis bytes) x || has p x)
+made-opened : (s : Stamp) (r : Result Contents WorldError) (p : Plain) (x : Thing) → NamesPass (λ q. before q s) p → (bytes : List ℕ)
+    → world_at bytes ≡ r
+    → opened (has p) s r x ≡ (op_makes s (Genesis bytes) x || has p x)
 made-opened s (Err e) p (board b) a bytes w = rw w refl
 made-opened s (Err e) p (stat y) a bytes w = rw w refl
 made-opened s (Err e) p (text t) a bytes w = rw w refl
@@ -113,25 +121,30 @@ made-opened s (Ok w) p (stat y) a bytes e =
 made-opened s (Ok w) p (text t) a bytes e = rw e (or_comm (has p (text t)) (list_any (λ x. same_text x.id t) (opened_texts s w.boards)))
 made-opened s (Ok w) p (element t b) a bytes e = rw e (byte-opened t b p (find_text t (opened_texts s w.boards)) (fresh-text t s w p a))
 
-made-none : (t : TextId) (a : ElemId) (s : Stamp) → list_any (λ x. same_element x.id a) (elements_in (find_text t (record { id = text_of s 0; elements = [] } ∷ []))) ≡ false
+made-none : (t : TextId) (a : ElemId) (s : Stamp)
+    → list_any (λ x. same_element x.id a) (elements_in (find_text t (record { id = text_of s 0; elements = [] } ∷ []))) ≡ false
 made-none t a s = go (same_text (text_of s 0) t)
   where
-    go : (b : Bool) → list_any (λ x. same_element x.id a) (elements_in (cond b (Some (record { id = text_of s 0; elements = [] })) None)) ≡ false
+    go : (b : Bool)
+        → list_any (λ x. same_element x.id a) (elements_in (cond b (Some (record { id = text_of s 0; elements = [] })) None)) ≡ false
     go true = refl
     go false = refl
 
-made-run : (b : Bool) (a : ElemId) (run : List TextByte) → (b && list_any (λ x. same_element x.id a) run) ≡ list_any (λ x. same_element x.id a) (cond b run [])
+made-run : (b : Bool) (a : ElemId) (run : List TextByte)
+    → (b && list_any (λ x. same_element x.id a) run) ≡ list_any (λ x. same_element x.id a) (cond b run [])
 made-run true a run = refl
 made-run false a run = refl
 
-made-grown : (s : Stamp) (op : Op) (p : Plain) (x : Thing) → NamesPass (λ q. before q s) p → grown (has p) s op x ≡ (op_makes s op x || has p x)
+made-grown : (s : Stamp) (op : Op) (p : Plain) (x : Thing) → NamesPass (λ q. before q s) p
+    → grown (has p) s op x ≡ (op_makes s op x || has p x)
 made-grown s (Genesis bytes) p x a = made-opened s (world_at bytes) p x a bytes refl
 made-grown s (BoardAdd name) p (board b) a = ap (λ v. v || has p (board b)) (sym (or_false (grows s (BoardAdd name) (board b))))
 made-grown s (BoardAdd name) p (stat y) a = refl
 made-grown s (StatAdd d fields) p (stat y) a = ap (λ v. v || has p (stat y)) (sym (or_false (grows s (StatAdd d fields) (stat y))))
 made-grown s TextAdd p (text t) a = ap (λ v. v || has p (text t)) (sym (or_false (grows s TextAdd (text t))))
 made-grown s TextAdd p (element t b) a = ap (λ v. v || has p (element t b)) (sym (made-none t b s))
-made-grown s (TextInsert u after bytes) p (element t b) a = ap (λ v. v || has p (element t b)) (made-run (same_text u t) b (run_from s 0 bytes))
+made-grown s (TextInsert u after bytes) p (element t b) a =
+    ap (λ v. v || has p (element t b)) (made-run (same_text u t) b (run_from s 0 bytes))
 made-grown s _ p (board b) a = refl
 made-grown s _ p (stat y) a = refl
 made-grown s _ p (text t) a = refl
@@ -143,14 +156,17 @@ or_more true false c = refl
 or_more false true c = refl
 or_more false false c = refl
 
-pub has-made : (p : Plain) (es : List Edit) (x : Thing) → IsRising es → IsBefore p es → has (replay_on p es) x ≡ (list_any (λ e. makes e x) (taken_on p es) || has p x)
+pub has-made : (p : Plain) (es : List Edit) (x : Thing) → IsRising es → IsBefore p es
+    → has (replay_on p es) x ≡ (list_any (λ e. makes e x) (taken_on p es) || has p x)
 has-made p [] x r a = refl
 has-made p (e ∷ es) x r a = has-made (step p e) es x r.1 (before-next p e es r.0 a.1) ∙ go (can p e) refl
   where
     rest : Bool
     rest = list_any (λ f. makes f x) (taken_on (step p e) es)
 
-    go : (b : Bool) → can p e ≡ b → (rest || has (cond b (do_edit p e) (hold p e)) x) ≡ (list_any (λ f. makes f x) (cond b (e ∷ taken_on (step p e) es) (taken_on (step p e) es)) || has p x)
+    go : (b : Bool) → can p e ≡ b
+        → (rest || has (cond b (do_edit p e) (hold p e)) x)
+        ≡ (list_any (λ f. makes f x) (cond b (e ∷ taken_on (step p e) es) (taken_on (step p e) es)) || has p x)
     go true c = ap (λ v. rest || v) (has-do_op e.stamp e.op p x c ∙ made-grown e.stamp e.op p x a.0) ∙ or_more rest (makes e x) (has p x)
     go false c = ap (λ v. rest || v) (has-hold p e x)
 
@@ -172,11 +188,14 @@ pub all-taken : (p : Plain) (es : List Edit) → held_on p es ≡ [] → taken_o
 all-taken p [] h = refl
 all-taken p (e ∷ es) h = go (can p e) h (λ k. all-taken (step p e) es k)
   where
-    go : (b : Bool) → cond b (held_on (step p e) es) (e ∷ held_on (step p e) es) ≡ [] → (held_on (step p e) es ≡ [] → taken_on (step p e) es ≡ es) → cond b (e ∷ taken_on (step p e) es) (taken_on (step p e) es) ≡ e ∷ es
+    go : (b : Bool) → cond b (held_on (step p e) es) (e ∷ held_on (step p e) es) ≡ []
+        → (held_on (step p e) es ≡ [] → taken_on (step p e) es ≡ es)
+        → cond b (e ∷ taken_on (step p e) es) (taken_on (step p e) es) ≡ e ∷ es
     go true k more = ap (λ rest. e ∷ rest) (more k)
     go false k more = absurd (cc)
 
-any-insert : (q : Edit → Bool) (low : List Edit) (e : Edit) (high : List Edit) → list_any q (low ++ e ∷ high) ≡ (q e || list_any q (low ++ high))
+any-insert : (q : Edit → Bool) (low : List Edit) (e : Edit) (high : List Edit)
+    → list_any q (low ++ e ∷ high) ≡ (q e || list_any q (low ++ high))
 any-insert q [] e high = refl
 any-insert q (f ∷ low) e high = ap (λ v. q f || v) (any-insert q low e high) ∙ swap (q f) (q e) (list_any q (low ++ high))
   where
@@ -189,7 +208,8 @@ pub rising-without : (e : Edit) (low high : List Edit) → IsRising (low ++ e �
 rising-without e [] high r = r.1
 rising-without e (f ∷ low) high r = (without low r.0, rising-without e low high r.1)
   where
-    without : (es : List Edit) → AllByRecursion (λ g. before f.stamp g.stamp ≡ true) (es ++ e ∷ high) → AllByRecursion (λ g. before f.stamp g.stamp ≡ true) (es ++ high)
+    without : (es : List Edit) → AllByRecursion (λ g. before f.stamp g.stamp ≡ true) (es ++ e ∷ high)
+        → AllByRecursion (λ g. before f.stamp g.stamp ≡ true) (es ++ high)
     without [] a = a.1
     without (g ∷ es) a = (a.0, without es a.1)
 

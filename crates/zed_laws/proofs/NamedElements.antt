@@ -54,22 +54,27 @@ earlier-others : (a : ElemId) (s : Stamp) (n : ℕ) (bytes : List ℕ) → befor
 earlier-others a s n [] h = tt
 earlier-others a s n (b ∷ bytes) h = (before-other_back a (byte_of s n) h, earlier-others a s (n + 1) bytes h)
 
-own-front : (s : Stamp) (n : ℕ) (bytes : List ℕ) (xs : List TextByte) → Below s xs → HaveOwnNames xs → HaveOwnNames (run_from s n bytes ++ xs)
+own-front : (s : Stamp) (n : ℕ) (bytes : List ℕ) (xs : List TextByte) → Below s xs → HaveOwnNames xs
+    → HaveOwnNames (run_from s n bytes ++ xs)
 own-front s n [] xs b o = o
 own-front s n (c ∷ bytes) xs b o = (
   all_joined (λ y. same_element (byte_of s n) y.id ≡ false) (run_from s (n + 1) bytes) xs (run-others s n (n + 1) bytes (omega arith)) (below-others s n xs b),
   own-front s (n + 1) bytes xs b o,
 )
 
-own-behind : (s : Stamp) (a : ElemId) (bytes : List ℕ) (xs : List TextByte) → Below s xs → HaveOwnNames xs → HaveOwnNames (behind a (λ rest. run_from s 0 bytes ++ rest) xs)
+own-behind : (s : Stamp) (a : ElemId) (bytes : List ℕ) (xs : List TextByte) → Below s xs → HaveOwnNames xs
+    → HaveOwnNames (behind a (λ rest. run_from s 0 bytes ++ rest) xs)
 own-behind s a bytes [] b o = tt
 own-behind s a bytes (x ∷ xs) b o = go (same_element x.id a) (own-behind s a bytes xs b.1 o.1)
   where
-    go : (t : Bool) → HaveOwnNames (behind a (λ rest. run_from s 0 bytes ++ rest) xs) → HaveOwnNames (x ∷ cond t (run_from s 0 bytes ++ xs) (behind a (λ rest. run_from s 0 bytes ++ rest) xs))
+    go : (t : Bool) → HaveOwnNames (behind a (λ rest. run_from s 0 bytes ++ rest) xs)
+        → HaveOwnNames (x ∷ cond t (run_from s 0 bytes ++ xs) (behind a (λ rest. run_from s 0 bytes ++ rest) xs))
     go true more = (all_joined (λ y. same_element x.id y.id ≡ false) (run_from s 0 bytes) xs (earlier-others x.id s 0 bytes b.0) o.0, own-front s 0 bytes xs b.1 o.1)
-    go false more = (All-behind (λ y. same_element x.id y.id ≡ false) a (run_from s 0 bytes) xs (earlier-others x.id s 0 bytes b.0) o.0, more)
+    go false more =
+        (All-behind (λ y. same_element x.id y.id ≡ false) a (run_from s 0 bytes) xs (earlier-others x.id s 0 bytes b.0) o.0, more)
 
-own-put : (s : Stamp) (after : Option ElemId) (bytes : List ℕ) (xs : List TextByte) → Below s xs → HaveOwnNames xs → HaveOwnNames (put_after after (run_from s 0 bytes) xs)
+own-put : (s : Stamp) (after : Option ElemId) (bytes : List ℕ) (xs : List TextByte) → Below s xs → HaveOwnNames xs
+    → HaveOwnNames (put_after after (run_from s 0 bytes) xs)
 own-put s None bytes xs b o = own-front s 0 bytes xs b o
 own-put s (Some a) bytes xs b o = own-behind s a bytes xs b o
 
@@ -92,7 +97,8 @@ own-opened : (s : Stamp) (n : ℕ) (programs : List (List ℕ)) → AllByRecursi
 own-opened s n [] = tt
 own-opened s n (bytes ∷ programs) = (run-own s 0 bytes, own-opened s (n + 1) programs)
 
-own-world : (s : Stamp) (r : Result Contents WorldError) (p : Plain) → AllByRecursion IsOwn p.texts → AllByRecursion IsOwn (open_world s r p).texts
+own-world : (s : Stamp) (r : Result Contents WorldError) (p : Plain) → AllByRecursion IsOwn p.texts
+    → AllByRecursion IsOwn (open_world s r p).texts
 own-world s (Err e) p a = a
 own-world s (Ok w) p a = all_joined IsOwn p.texts (opened_texts s w.boards) a (own-opened s 0 (programs_of w.boards))
 
@@ -100,11 +106,13 @@ own-world s (Ok w) p a = all_joined IsOwn p.texts (opened_texts s w.boards) a (o
 abbrev IsOwnBelow : Stamp → Text → Type 0
 IsOwnBelow s x = Below s x.elements × IsOwn x
 
-both : (s : Stamp) (xs : List Text) → AllByRecursion (IsGood (λ r. before r s)) xs → AllByRecursion IsOwn xs → AllByRecursion (IsOwnBelow s) xs
+both : (s : Stamp) (xs : List Text) → AllByRecursion (IsGood (λ r. before r s)) xs → AllByRecursion IsOwn xs
+    → AllByRecursion (IsOwnBelow s) xs
 both s [] a b = tt
 both s (x ∷ xs) a b = ((a.0.1, b.0), both s xs a.1 b.1)
 
-own-do_op : (s : Stamp) (op : Op) (p : Plain) → AllByRecursion (IsGood (λ r. before r s)) p.texts → AllByRecursion IsOwn p.texts → AllByRecursion IsOwn (do_op s op p).texts
+own-do_op : (s : Stamp) (op : Op) (p : Plain) → AllByRecursion (IsGood (λ r. before r s)) p.texts → AllByRecursion IsOwn p.texts
+    → AllByRecursion IsOwn (do_op s op p).texts
 own-do_op s (Genesis bytes) p g a = own-world s (world_at bytes) p a
 own-do_op s TextAdd p g a = all_joined IsOwn p.texts (record { id = text_of s 0; elements = [] } ∷ []) a (tt, tt)
 own-do_op s (TextInsert t after bytes) p g a =
@@ -113,7 +121,8 @@ own-do_op s (TextDelete t r) p g a =
     keep-change IsOwn IsOwn t (kill r) p.texts (λ x h. own-kill r x.elements h) (λ x h. h) a
 own-do_op s _ p g a = a
 
-own-step : (p : Plain) (e : Edit) → AllByRecursion (IsGood (λ r. before r e.stamp)) p.texts → AllByRecursion IsOwn p.texts → AllByRecursion IsOwn (step p e).texts
+own-step : (p : Plain) (e : Edit) → AllByRecursion (IsGood (λ r. before r e.stamp)) p.texts → AllByRecursion IsOwn p.texts
+    → AllByRecursion IsOwn (step p e).texts
 own-step p e g a = go (can p e) refl
   where
     go : (b : Bool) → can p e ≡ b → AllByRecursion IsOwn (step p e).texts
@@ -129,15 +138,18 @@ later-elements : (s t : Stamp) (xs : List TextByte) → before s t ≡ true → 
 later-elements s t [] h a = tt
 later-elements s t (x ∷ xs) h a = (before_trans x.id.name.stamp s t a.0 h, later-elements s t xs h a.1)
 
-later-texts : (s t : Stamp) (xs : List Text) → before s t ≡ true → AllByRecursion (IsGood (λ r. before r s)) xs → AllByRecursion (IsGood (λ r. before r t)) xs
+later-texts : (s t : Stamp) (xs : List Text) → before s t ≡ true → AllByRecursion (IsGood (λ r. before r s)) xs
+    → AllByRecursion (IsGood (λ r. before r t)) xs
 later-texts s t [] h a = tt
 later-texts s t (x ∷ xs) h a = ((before_trans x.id.name.stamp s t a.0.0 h, later-elements s t x.elements h a.0.1), later-texts s t xs h a.1)
 
-before-next : (p : Plain) (e : Edit) (es : List Edit) → IsRising (e ∷ es) → AllByRecursion (IsGood (λ r. before r e.stamp)) p.texts → AllBefore (step p e) es
+before-next : (p : Plain) (e : Edit) (es : List Edit) → IsRising (e ∷ es) → AllByRecursion (IsGood (λ r. before r e.stamp)) p.texts
+    → AllBefore (step p e) es
 before-next p e [] r a = tt
 before-next p e (f ∷ es) r a = good-step (λ s. before s f.stamp) p e r.0.0 (later-texts e.stamp f.stamp p.texts r.0.0 a)
 
-own-on : (p : Plain) (es : List Edit) → IsRising es → AllBefore p es → AllByRecursion IsOwn p.texts → AllByRecursion IsOwn (replay_on p es).texts
+own-on : (p : Plain) (es : List Edit) → IsRising es → AllBefore p es → AllByRecursion IsOwn p.texts
+    → AllByRecursion IsOwn (replay_on p es).texts
 own-on p [] r b a = a
 own-on p (e ∷ es) r b a = own-on (step p e) es r.1 (before-next p e es r b) (own-step p e b a)
 

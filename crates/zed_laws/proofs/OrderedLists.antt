@@ -88,31 +88,39 @@ module _ (X : Type 0) (name : X → Name) where
   named s n x = same_name (name x) (name_of s n)
 
   -- a name that comes before all members finds none
-  find-none : (s : Stamp) (n : ℕ) (xs : List X) → AllByRecursion (λ y. earlier s n (stamp y) (index y) ≡ true) xs → find (named s n) xs ≡ None
+  find-none : (s : Stamp) (n : ℕ) (xs : List X) → AllByRecursion (λ y. earlier s n (stamp y) (index y) ≡ true) xs
+      → find (named s n) xs ≡ None
   find-none s n [] h = refl
   find-none s n (y ∷ xs) h =
       let out : named s n y ≡ false = not-itself s (stamp y) n (index y) h.0 in
       rw out (find-none s n xs h.1)
 
   -- an earlier name than the first member's finds none
-  all-later : (s : Stamp) (n : ℕ) (y : X) (xs : List X) → earlier s n (stamp y) (index y) ≡ true → AllByRecursion (λ z. earlier (stamp y) (index y) (stamp z) (index z) ≡ true) xs → AllByRecursion (λ z. earlier s n (stamp z) (index z) ≡ true) xs
+  all-later : (s : Stamp) (n : ℕ) (y : X) (xs : List X) → earlier s n (stamp y) (index y) ≡ true
+      → AllByRecursion (λ z. earlier (stamp y) (index y) (stamp z) (index z) ≡ true) xs
+      → AllByRecursion (λ z. earlier s n (stamp z) (index z) ≡ true) xs
   all-later s n y [] e h = tt
   all-later s n y (z ∷ xs) e h = (earlier-through s (stamp y) (stamp z) n (index y) (index z) e h.0, all-later s n y xs e h.1)
 
   find-first : (x : X) (xs : List X) → find (named (stamp x) (index x)) (x ∷ xs) ≡ Some x
   find-first x xs = let i : named (stamp x) (index x) x ≡ true = itself (stamp x) (index x) in rw i refl
 
-  not-earlier : (x y : X) (xs ys : List X) → NamesRise name (y ∷ ys) → find (named (stamp x) (index x)) (x ∷ xs) ≡ find (named (stamp x) (index x)) (y ∷ ys) → earlier (stamp x) (index x) (stamp y) (index y) ≡ false
+  not-earlier : (x y : X) (xs ys : List X) → NamesRise name (y ∷ ys)
+      → find (named (stamp x) (index x)) (x ∷ xs) ≡ find (named (stamp x) (index x)) (y ∷ ys)
+      → earlier (stamp x) (index x) (stamp y) (index y) ≡ false
   not-earlier x y xs ys r e = go (earlier (stamp x) (index x) (stamp y) (index y)) refl
     where
       go : (b : Bool) → earlier (stamp x) (index x) (stamp y) (index y) ≡ b → b ≡ false
       go false b = refl
       go true b =
-          let none : find (named (stamp x) (index x)) (y ∷ ys) ≡ None = find-none (stamp x) (index x) (y ∷ ys) (b, all-later (stamp x) (index x) y ys b r.0) in
+          let none : find (named (stamp x) (index x)) (y ∷ ys) ≡ None =
+          find-none (stamp x) (index x) (y ∷ ys) (b, all-later (stamp x) (index x) y ys b r.0) in
           let c : Some x ≡ None = sym (find-first x xs) ∙ e ∙ none in
           absurd (cc)
 
-  same-first : (x y : X) (xs ys : List X) → NamesRise name (x ∷ xs) → NamesRise name (y ∷ ys) → ((s : Stamp) (n : ℕ) → find (named s n) (x ∷ xs) ≡ find (named s n) (y ∷ ys)) → x ≡ y
+  same-first : (x y : X) (xs ys : List X) → NamesRise name (x ∷ xs) → NamesRise name (y ∷ ys)
+      → ((s : Stamp) (n : ℕ) → find (named s n) (x ∷ xs) ≡ find (named s n) (y ∷ ys))
+      → x ≡ y
   same-first x y xs ys p q e =
       let a = not-earlier x y xs ys q (e (stamp x) (index x)) in
       let b = not-earlier y x ys xs p (sym (e (stamp y) (index y))) in
@@ -121,13 +129,17 @@ module _ (X : Type 0) (name : X → Name) where
       some_is x y (sym (find-first x xs) ∙ e (stamp x) (index x) ∙ there)
 
   -- behind the first members each name finds the same too
-  same-rest : (x y : X) (xs ys : List X) → x ≡ y → NamesRise name (x ∷ xs) → NamesRise name (y ∷ ys) → ((s : Stamp) (n : ℕ) → find (named s n) (x ∷ xs) ≡ find (named s n) (y ∷ ys)) → (s : Stamp) (n : ℕ) → find (named s n) xs ≡ find (named s n) ys
+  same-rest : (x y : X) (xs ys : List X) → x ≡ y → NamesRise name (x ∷ xs) → NamesRise name (y ∷ ys)
+      → ((s : Stamp) (n : ℕ) → find (named s n) (x ∷ xs) ≡ find (named s n) (y ∷ ys)) → (s : Stamp) (n : ℕ)
+      → find (named s n) xs ≡ find (named s n) ys
   same-rest x y xs ys i p q e s n = go (named s n x) refl (named s n y) refl
     where
       rest-find : (z : X) (zs : List X) → named s n z ≡ false → find (named s n) (z ∷ zs) ≡ find (named s n) zs
       rest-find z zs b = rw b refl
 
-      later-same : (z : X) (zs : List X) → named s n z ≡ true → AllByRecursion (λ w. earlier (stamp z) (index z) (stamp w) (index w) ≡ true) zs → AllByRecursion (λ w. earlier s n (stamp w) (index w) ≡ true) zs
+      later-same : (z : X) (zs : List X) → named s n z ≡ true
+          → AllByRecursion (λ w. earlier (stamp z) (index z) (stamp w) (index w) ≡ true) zs
+          → AllByRecursion (λ w. earlier s n (stamp w) (index w) ≡ true) zs
       later-same z [] b h = tt
       later-same z (w ∷ zs) b h = (earlier-same (stamp z) s (stamp w) (index z) n (index w) b h.0, later-same z zs b h.1)
 

@@ -69,7 +69,8 @@ all-parts P (x ∷ xs) ys h = let k = all-parts P xs ys h.1 in ((h.0, k.0), k.1)
 
 differ-joined : (xs ys : List Stat) → Differ xs → Differ ys → AllByRecursion (λ (x : Stat). Apart x.id.name ys) xs → Differ (xs ++ ys)
 differ-joined [] ys d e a = e
-differ-joined (x ∷ xs) ys d e a = (all_joined (λ (y : Stat). same_name x.id.name y.id.name ≡ false) xs ys d.0 a.0, differ-joined xs ys d.1 e a.1)
+differ-joined (x ∷ xs) ys d e a =
+    (all_joined (λ (y : Stat). same_name x.id.name y.id.name ≡ false) xs ys d.0 a.0, differ-joined xs ys d.1 e a.1)
 
 differ-left : (xs ys : List Stat) → Differ (xs ++ ys) → Differ xs
 differ-left [] ys d = tt
@@ -102,7 +103,9 @@ earlier-apart a b s h k =
     other-stamp a b (before_differs a.stamp b.stamp e)
 
 -- stats before a stamp, and stats of that stamp
-across-stamps : (s : Stamp) (xs ys : List Stat) → StampsAre (λ (x : Stat). x.id.name.stamp) (λ q. before q s) xs → StampsAre (λ (x : Stat). x.id.name.stamp) (λ q. same_stamp q s) ys → AllByRecursion (λ (x : Stat). Apart x.id.name ys) xs
+across-stamps : (s : Stamp) (xs ys : List Stat) → StampsAre (λ (x : Stat). x.id.name.stamp) (λ q. before q s) xs
+    → StampsAre (λ (x : Stat). x.id.name.stamp) (λ q. same_stamp q s) ys
+    → AllByRecursion (λ (x : Stat). Apart x.id.name ys) xs
 across-stamps s xs ys a b =
     all_weaker (λ (x : Stat). before x.id.name.stamp s ≡ true) (λ (x : Stat). Apart x.id.name ys) xs
     (λ x h. all_weaker (λ (y : Stat). same_stamp y.id.name.stamp s ≡ true) (λ (y : Stat). same_name x.id.name y.id.name ≡ false) ys (λ y k. earlier-apart x.id.name y.id.name s h k) b)
@@ -110,13 +113,17 @@ across-stamps s xs ys a b =
 
 -- ---- the stats of a world file
 
-above-all : (s : Stamp) (k n m t : ℕ) (bs : List BoardData) → k < m → AllByRecursion (λ (x : Stat). is_earlier (name_of s k) x.id.name ≡ true) (stats_of (opened_boards_from s n m t bs))
+above-all : (s : Stamp) (k n m t : ℕ) (bs : List BoardData) → k < m
+    → AllByRecursion (λ (x : Stat). is_earlier (name_of s k) x.id.name ≡ true) (stats_of (opened_boards_from s n m t bs))
 above-all s k n m t [] lt = tt
 above-all s k n m t (b ∷ bs) lt =
     all_joined (λ (x : Stat). is_earlier (name_of s k) x.id.name ≡ true) (opened_stats s m t b) (stats_of (opened_boards_from s (n + 1) (m + length b.stats) (t + programs_before (length b.stats) b.stats) bs))
     (above-opened_stats s k m t b 0 b.stats (omega arith)) (above-all s k (n + 1) (m + length b.stats) (t + programs_before (length b.stats) b.stats) bs (omega arith))
 
-rise-joined : (s : Stamp) (m t : ℕ) (b : BoardData) (j : ℕ) (xs : List StatData) (rest : List Stat) → ((k : ℕ) → k < (m + j) + length xs → AllByRecursion (λ (x : Stat). is_earlier (name_of s k) x.id.name ≡ true) rest) → NamesRise (λ (x : Stat). x.id.name) rest → NamesRise (λ (x : Stat). x.id.name) (map_from (opened_stat s m t b) j xs ++ rest)
+rise-joined : (s : Stamp) (m t : ℕ) (b : BoardData) (j : ℕ) (xs : List StatData) (rest : List Stat)
+    → ((k : ℕ) → k < (m + j) + length xs → AllByRecursion (λ (x : Stat). is_earlier (name_of s k) x.id.name ≡ true) rest)
+    → NamesRise (λ (x : Stat). x.id.name) rest
+    → NamesRise (λ (x : Stat). x.id.name) (map_from (opened_stat s m t b) j xs ++ rest)
 rise-joined s m t b j [] rest above r = r
 rise-joined s m t b j (x ∷ xs) rest above r = (
   all_joined (λ (y : Stat). is_earlier (name_of s (m + j)) y.id.name ≡ true) (map_from (opened_stat s m t b) (j + 1) xs) rest (above-opened_stats s (m + j) m t b (j + 1) xs (omega arith)) (above (m + j) (omega arith)),
@@ -132,7 +139,8 @@ rise-all s n m t (b ∷ bs) =
 
 -- ---- a new stat
 
-all-added : (P : Stat → Type 0) (test : Board → Bool) (n : Stat) (bs : List Board) → P n → AllByRecursion P (stats_of bs) → AllByRecursion P (stats_of (change_such test (add_stat n) bs))
+all-added : (P : Stat → Type 0) (test : Board → Bool) (n : Stat) (bs : List Board) → P n → AllByRecursion P (stats_of bs)
+    → AllByRecursion P (stats_of (change_such test (add_stat n) bs))
 all-added P test n [] p a = tt
 all-added P test n (b ∷ bs) p a = all_joined P (cond (test b) (add_stat n b) b).stats (stats_of (change_such test (add_stat n) bs)) (head (test b)) (all-added P test n bs p parts.1)
   where
@@ -144,14 +152,17 @@ all-added P test n (b ∷ bs) p a = all_joined P (cond (test b) (add_stat n b) b
     head false = parts.0
 
 -- boards of other names are not changed
-none-changed : (d : BoardId) (f : Board → Board) (bs : List Board) → AllByRecursion (λ (y : Board). same_name d.name y.id.name ≡ false) bs → change_such (λ c. same_board c.id d) f bs ≡ bs
+none-changed : (d : BoardId) (f : Board → Board) (bs : List Board) → AllByRecursion (λ (y : Board). same_name d.name y.id.name ≡ false) bs
+    → change_such (λ c. same_board c.id d) f bs ≡ bs
 none-changed d f [] a = refl
 none-changed d f (b ∷ bs) a = let e : same_name b.id.name d.name ≡ false = turned d.name b.id.name a.0 in rw e (ap (λ cs. b ∷ cs) (none-changed d f bs a.1))
   where
     turned : (m n : Name) → same_name m n ≡ false → same_name n m ≡ false
     turned m n h = grind (arith, h)
 
-added : (n : Stat) (d : BoardId) (bs : List Board) → NamesDiffer (λ (b : Board). b.id.name) bs → Differ (stats_of bs) → AllByRecursion (λ (x : Stat). same_name x.id.name n.id.name ≡ false) (stats_of bs) → Apart n.id.name (stats_of bs) → Differ (stats_of (change_such (λ c. same_board c.id d) (add_stat n) bs))
+added : (n : Stat) (d : BoardId) (bs : List Board) → NamesDiffer (λ (b : Board). b.id.name) bs → Differ (stats_of bs)
+    → AllByRecursion (λ (x : Stat). same_name x.id.name n.id.name ≡ false) (stats_of bs) → Apart n.id.name (stats_of bs)
+    → Differ (stats_of (change_such (λ c. same_board c.id d) (add_stat n) bs))
 added n d [] boards differ before_it behind_it = tt
 added n d (b ∷ bs) boards differ before_it behind_it = go (same_board b.id d) refl (added n d bs boards.1 right others.1 aparts.1)
   where
@@ -164,7 +175,8 @@ added n d (b ∷ bs) boards differ before_it behind_it = go (same_board b.id d) 
     across : AllByRecursion (λ (x : Stat). Apart x.id.name (stats_of bs)) b.stats
     across = differ-across b.stats (stats_of bs) differ
 
-    others : AllByRecursion (λ (x : Stat). same_name x.id.name n.id.name ≡ false) b.stats × AllByRecursion (λ (x : Stat). same_name x.id.name n.id.name ≡ false) (stats_of bs)
+    others : AllByRecursion (λ (x : Stat). same_name x.id.name n.id.name ≡ false) b.stats
+        × AllByRecursion (λ (x : Stat). same_name x.id.name n.id.name ≡ false) (stats_of bs)
     others = all-parts (λ (x : Stat). same_name x.id.name n.id.name ≡ false) b.stats (stats_of bs) before_it
 
     aparts : Apart n.id.name b.stats × Apart n.id.name (stats_of bs)
@@ -173,7 +185,8 @@ added n d (b ∷ bs) boards differ before_it behind_it = go (same_board b.id d) 
     with_it : Differ (b.stats ++ n ∷ [])
     with_it = differ-joined b.stats (n ∷ []) left (tt, tt) (all_weaker (λ (x : Stat). same_name x.id.name n.id.name ≡ false) (λ (x : Stat). Apart x.id.name (n ∷ [])) b.stats (λ x h. (h, tt)) others.0)
 
-    go : (v : Bool) → same_board b.id d ≡ v → Differ (stats_of (change_such (λ c. same_board c.id d) (add_stat n) bs)) → Differ ((cond v (add_stat n b) b).stats ++ stats_of (change_such (λ c. same_board c.id d) (add_stat n) bs))
+    go : (v : Bool) → same_board b.id d ≡ v → Differ (stats_of (change_such (λ c. same_board c.id d) (add_stat n) bs))
+        → Differ ((cond v (add_stat n b) b).stats ++ stats_of (change_such (λ c. same_board c.id d) (add_stat n) bs))
     go true v more =
         let e = same_name-true b.id.name d.name v in
         let rest : change_such (λ c. same_board c.id d) (add_stat n) bs ≡ bs = none-changed d (add_stat n) bs (subst (λ (m : Name). AllByRecursion (λ (y : Board). same_name m y.id.name ≡ false) bs) e boards.0) in
@@ -187,32 +200,40 @@ added n d (b ∷ bs) boards differ before_it behind_it = go (same_board b.id d) 
 
 -- ---- every edit
 
-joined-boards : (s : Stamp) (p : Plain) (more : List Board) → NamesPass (λ q. before q s) p → AllByRecursion (IsBoardOf (λ q. same_stamp q s)) more → Differ (stats_of p.boards) → Differ (stats_of more) → Differ (stats_of (p.boards ++ more))
+joined-boards : (s : Stamp) (p : Plain) (more : List Board) → NamesPass (λ q. before q s) p
+    → AllByRecursion (IsBoardOf (λ q. same_stamp q s)) more → Differ (stats_of p.boards) → Differ (stats_of more)
+    → Differ (stats_of (p.boards ++ more))
 joined-boards s p more a b d e =
     subst Differ (sym (flat_map-append (λ (c : Board). c.stats) p.boards more))
     (differ-joined (stats_of p.boards) (stats_of more) d e (across-stamps s (stats_of p.boards) (stats_of more) (stats-pass (λ q. before q s) p.boards a.boards) (stats-pass (λ q. same_stamp q s) more b)))
 
-own-world : (s : Stamp) (r : Result Contents WorldError) (p : Plain) → NamesPass (λ q. before q s) p → Differ (stats_of p.boards) → Differ (stats_of (open_world s r p).boards)
+own-world : (s : Stamp) (r : Result Contents WorldError) (p : Plain) → NamesPass (λ q. before q s) p → Differ (stats_of p.boards)
+    → Differ (stats_of (open_world s r p).boards)
 own-world s (Err e) p a d = d
 own-world s (Ok w) p a d =
     joined-boards s p (opened_boards s w.boards) a (pass-opened_boards (λ q. same_stamp q s) s 0 0 0 w.boards (same_stamp-itself s)) d
     (rise-differ (λ (x : Stat). x.id.name) (stats_of (opened_boards s w.boards)) (rise-all s 0 0 0 w.boards))
 
-kept-names : (y : StatId) (f : Stat → Stat) → ((x : Stat) → (f x).id ≡ x.id) → (bs : List Board) → Differ (stats_of bs) → Differ (stats_of (map (change_stats_of y f) bs))
+kept-names : (y : StatId) (f : Stat → Stat) → ((x : Stat) → (f x).id ≡ x.id) → (bs : List Board) → Differ (stats_of bs)
+    → Differ (stats_of (map (change_stats_of y f) bs))
 kept-names y f names bs d = subst Differ (sym (stats-changed y f bs)) (differ-map (λ (x : Stat). cond (same_stat x.id y) (f x) x) (λ x. such x (same_stat x.id y)) (stats_of bs) d)
   where
     such : (x : Stat) (v : Bool) → (cond v (f x) x).id ≡ x.id
     such x true = names x
     such x false = refl
 
-own-op : (s : Stamp) (op : Op) (p : Plain) → NamesPass (λ q. before q s) p → NamesDiffer (λ (b : Board). b.id.name) p.boards → Differ (stats_of p.boards) → Differ (stats_of (do_op s op p).boards)
+own-op : (s : Stamp) (op : Op) (p : Plain) → NamesPass (λ q. before q s) p → NamesDiffer (λ (b : Board). b.id.name) p.boards
+    → Differ (stats_of p.boards)
+    → Differ (stats_of (do_op s op p).boards)
 own-op s (Genesis bytes) p a b d = own-world s (world_at bytes) p a d
 own-op s (BoardAdd name) p a b d =
     let itself = same_stamp-itself s in
     joined-boards s p (new_board (board_of s 0) (stat_of s 0) name ∷ []) a ((itself, (itself, tt)), tt) d (tt, tt)
 own-op s (BoardRemove c) p a b d = subst Differ (sym (stats-same (λ x. same_board x.id c) remove_board (λ x. refl) p.boards)) d
-own-op s (SetBoard c setting) p a b d = subst Differ (sym (stats-same (λ x. same_board x.id c) (set_board_property setting) (λ x. refl) p.boards)) d
-own-op s (SetCells c cells tile) p a b d = subst Differ (sym (stats-same (λ x. same_board x.id c) (set_board_cells cells tile) (λ x. refl) p.boards)) d
+own-op s (SetBoard c setting) p a b d =
+    subst Differ (sym (stats-same (λ x. same_board x.id c) (set_board_property setting) (λ x. refl) p.boards)) d
+own-op s (SetCells c cells tile) p a b d =
+    subst Differ (sym (stats-same (λ x. same_board x.id c) (set_board_cells cells tile) (λ x. refl) p.boards)) d
 own-op s (StatAdd c fields) p a b d =
     let n = new_stat (stat_of s 0) false fields in
     let earlier = stats-pass (λ q. before q s) p.boards a.boards in
@@ -223,14 +244,16 @@ own-op s (StatRemove y) p a b d = kept-names y remove_stat (λ x. refl) p.boards
 own-op s (SetStat y setting) p a b d = kept-names y (set_stat setting) (set_stat-stamp setting) p.boards d
 own-op s _ p a b d = d
 
-own-step : (p : Plain) (e : Edit) → NamesPass (λ q. before q e.stamp) p → IsOrdered p → Differ (stats_of p.boards) → Differ (stats_of (step p e).boards)
+own-step : (p : Plain) (e : Edit) → NamesPass (λ q. before q e.stamp) p → IsOrdered p → Differ (stats_of p.boards)
+    → Differ (stats_of (step p e).boards)
 own-step p e a o d = go (can p e)
   where
     go : (v : Bool) → Differ (stats_of (cond v (do_edit p e) (hold p e)).boards)
     go true = own-op e.stamp e.op p a (rise-differ (λ (b : Board). b.id.name) p.boards o.boards) d
     go false = d
 
-own-on : (p : Plain) (es : List Edit) → IsRising es → IsBefore p es → IsOrdered p → Differ (stats_of p.boards) → Differ (stats_of (replay_on p es).boards)
+own-on : (p : Plain) (es : List Edit) → IsRising es → IsBefore p es → IsOrdered p → Differ (stats_of p.boards)
+    → Differ (stats_of (replay_on p es).boards)
 own-on p [] r a o d = d
 own-on p (e ∷ es) r a o d = own-on (step p e) es r.1 (before-next p e es r.0 a.1) (order-step p e a.0 o) (own-step p e a.0 o d)
 

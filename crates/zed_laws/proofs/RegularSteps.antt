@@ -53,12 +53,16 @@ use Rattle.zed_laws.proofs.AllBoards.{all_set, each_changed, all_mapped}
 
 -- ---- the header
 
-header_regular : (setting : HeaderSetting) (h : Header) → is_header_in_range setting ≡ true → IsRegularHeader h → IsRegularHeader (set_header setting h)
+header_regular : (setting : HeaderSetting) (h : Header) → is_header_in_range setting ≡ true → IsRegularHeader h
+    → IsRegularHeader (set_header setting h)
 header_regular (header.Number f n) h good r = record { numbers = length-set h.numbers (header_number_index f) n ∙ r.numbers; keys = r.keys; world_name = r.world_name; flags = r.flags; each_flag = r.each_flag }
 header_regular (header.Key k b) h good r = record { numbers = r.numbers; keys = length-set h.keys (key_index k) b ∙ r.keys; world_name = r.world_name; flags = r.flags; each_flag = r.each_flag }
-header_regular (header.Saved b) h good r = record { numbers = r.numbers; keys = r.keys; world_name = r.world_name; flags = r.flags; each_flag = r.each_flag }
-header_regular (header.CurrentBoard b) h good r = record { numbers = r.numbers; keys = r.keys; world_name = r.world_name; flags = r.flags; each_flag = r.each_flag }
-header_regular (header.WorldName s) h good r = record { numbers = r.numbers; keys = r.keys; world_name = leb-true (length s) 20 good; flags = r.flags; each_flag = r.each_flag }
+header_regular (header.Saved b) h good r =
+    record { numbers = r.numbers; keys = r.keys; world_name = r.world_name; flags = r.flags; each_flag = r.each_flag }
+header_regular (header.CurrentBoard b) h good r =
+    record { numbers = r.numbers; keys = r.keys; world_name = r.world_name; flags = r.flags; each_flag = r.each_flag }
+header_regular (header.WorldName s) h good r =
+    record { numbers = r.numbers; keys = r.keys; world_name = leb-true (length s) 20 good; flags = r.flags; each_flag = r.each_flag }
 header_regular (header.Flag k s) h good r = record {
   numbers = r.numbers;
   keys = r.keys;
@@ -72,20 +76,23 @@ header_regular (header.Flag k s) h good r = record {
 with_properties : (b : Board) (q : Properties) → AreTexts q.texts → IsRegularBoard b → IsRegularBoard (record b { properties = q })
 with_properties b q texts r = record { texts = texts; tiles = r.tiles; player = r.player; title_stays = r.title_stays }
 
-text_set : (f : BoardText) (s : List ℕ) (texts : List (List ℕ)) → is_at_most (most_of f) s ≡ true → AreTexts texts → AreTexts (set texts (board_text_index f) s)
+text_set : (f : BoardText) (s : List ℕ) (texts : List (List ℕ)) → is_at_most (most_of f) s ≡ true → AreTexts texts
+    → AreTexts (set texts (board_text_index f) s)
 text_set f s [] good h = absurd h
 text_set f s (n ∷ []) good h = absurd h
 text_set Name s (n ∷ m ∷ []) good h = (leb-true (length s) 50 good, h.1)
 text_set Message s (n ∷ m ∷ []) good h = (h.0, leb-true (length s) 58 good)
 text_set f s (n ∷ m ∷ x ∷ xs) good h = absurd h
 
-property_regular : (setting : BoardSetting) (b : Board) → is_property_in_range setting ≡ true → IsRegularBoard b → IsRegularBoard (set_board_property setting b)
+property_regular : (setting : BoardSetting) (b : Board) → is_property_in_range setting ≡ true → IsRegularBoard b
+    → IsRegularBoard (set_board_property setting b)
 property_regular (property.Byte f n) b good r = with_properties b (set_property (property.Byte f n) b.properties) r.texts r
 property_regular (property.Flag f n) b good r = with_properties b (set_property (property.Flag f n) b.properties) r.texts r
 property_regular (property.TimeLimit n) b good r = with_properties b (set_property (property.TimeLimit n) b.properties) r.texts r
 property_regular (property.Rank n) b good r = with_properties b (set_property (property.Rank n) b.properties) r.texts r
 property_regular (property.Exit f n) b good r = with_properties b (set_property (property.Exit f n) b.properties) r.texts r
-property_regular (property.Text f s) b good r = with_properties b (set_property (property.Text f s) b.properties) (text_set f s b.properties.texts good r.texts) r
+property_regular (property.Text f s) b good r =
+    with_properties b (set_property (property.Text f s) b.properties) (text_set f s b.properties.texts good r.texts) r
 
 cells_regular : (r : Rectangle) (tile : Tile) (b : Board) → IsRegularBoard b → IsRegularBoard (set_board_cells r tile b)
 cells_regular r tile b h = record { texts = h.texts; tiles = length-map_from (λ i old. cond (is_inside r (place_at i)) tile old) 0 b.tiles ∙ h.tiles; player = h.player; title_stays = h.title_stays }
@@ -93,7 +100,8 @@ cells_regular r tile b h = record { texts = h.texts; tiles = length-map_from (λ
 same_name : (a b c : BoardId) → same_board a b ≡ true → same_board a c ≡ true → same_board b c ≡ true
 same_name a b c h k = let e = same_board-true a b h in rw e at k
 
-removed_regular : (id : BoardId) → not (same_board id title) ≡ true → (b : Board) → same_board b.id id ≡ true → IsRegularBoard b → IsRegularBoard (remove_board b)
+removed_regular : (id : BoardId) → not (same_board id title) ≡ true → (b : Board) → same_board b.id id ≡ true → IsRegularBoard b
+    → IsRegularBoard (remove_board b)
 removed_regular id other b same h = record { texts = h.texts; tiles = h.tiles; player = h.player; title_stays = λ k. absurd (let e = same_name b.id id title same k in let clash : false ≡ true = rw e at other in cc) }
 
 pub length_new_table : length new_table ≡ TILES
@@ -101,7 +109,8 @@ unfolding new_table
 length_new_table = refl
 
 new_board_regular : (id : BoardId) (player : StatId) (name : List ℕ) → length name ≤ 50 → IsRegularBoard (new_board id player name)
-new_board_regular id player name le = record { texts = (le, lit≤ tt); tiles = length_new_table; player = (refl, refl); title_stays = λ k. refl }
+new_board_regular id player name le =
+    record { texts = (le, lit≤ tt); tiles = length_new_table; player = (refl, refl); title_stays = λ k. refl }
 
 -- ---- stats
 
@@ -112,7 +121,9 @@ player_then : (ss : List Stat) (s : Stat) → HasPlayer ss → HasPlayer (ss ++ 
 player_then [] s h = absurd h
 player_then (x ∷ xs) s h = h
 
-player_changed : (test : Stat → Bool) (f : Stat → Stat) (ss : List Stat) → ((s : Stat) → (s.is_player ≡ true) × (s.removed ≡ false) → ((f s).is_player ≡ true) × ((f s).removed ≡ false)) → HasPlayer ss → HasPlayer (change_such test f ss)
+player_changed : (test : Stat → Bool) (f : Stat → Stat) (ss : List Stat)
+    → ((s : Stat) → (s.is_player ≡ true) × (s.removed ≡ false) → ((f s).is_player ≡ true) × ((f s).removed ≡ false)) → HasPlayer ss
+    → HasPlayer (change_such test f ss)
 player_changed test f [] keeps h = absurd h
 player_changed test f (s ∷ ss) keeps h = one (test s)
   where
@@ -120,14 +131,17 @@ player_changed test f (s ∷ ss) keeps h = one (test s)
     one true = keeps s h
     one false = h
 
-removed_stat : (s : Stat) → (s.is_player ≡ true) × (s.removed ≡ false) → ((remove_stat s).is_player ≡ true) × ((remove_stat s).removed ≡ false)
+removed_stat : (s : Stat) → (s.is_player ≡ true) × (s.removed ≡ false)
+    → ((remove_stat s).is_player ≡ true) × ((remove_stat s).removed ≡ false)
 removed_stat s h = (h.0, ap not h.0)
 
-number_keeps : (o : Option ℕ) (n : ℤ) (s : Stat) → (s.is_player ≡ true) × (s.removed ≡ false) → ((with_number o n s).is_player ≡ true) × ((with_number o n s).removed ≡ false)
+number_keeps : (o : Option ℕ) (n : ℤ) (s : Stat) → (s.is_player ≡ true) × (s.removed ≡ false)
+    → ((with_number o n s).is_player ≡ true) × ((with_number o n s).removed ≡ false)
 number_keeps (Some i) n s h = h
 number_keeps None n s h = h
 
-set_keeps : (setting : StatSetting) (s : Stat) → (s.is_player ≡ true) × (s.removed ≡ false) → ((set_stat setting s).is_player ≡ true) × ((set_stat setting s).removed ≡ false)
+set_keeps : (setting : StatSetting) (s : Stat) → (s.is_player ≡ true) × (s.removed ≡ false)
+    → ((set_stat setting s).is_player ≡ true) × ((set_stat setting s).removed ≡ false)
 set_keeps (stat.Byte f n) s h = h
 set_keeps (stat.Number f n) s h = number_keeps (stat_number_index f) n s h
 set_keeps (stat.P3 p) s h = h
@@ -135,8 +149,12 @@ set_keeps (stat.Follower o) s h = h
 set_keeps (stat.Leader o) s h = h
 set_keeps (stat.Text o) s h = h
 
-stats_regular : (id : StatId) (f : Stat → Stat) → ((s : Stat) → (s.is_player ≡ true) × (s.removed ≡ false) → ((f s).is_player ≡ true) × ((f s).removed ≡ false)) → (b : Board) → IsRegularBoard b → IsRegularBoard (change_stats (change_such (λ x. same_stat x.id id) f) b)
-stats_regular id f keeps b r = with_stats b (change_such (λ x. same_stat x.id id) f b.stats) (player_changed (λ x. same_stat x.id id) f b.stats keeps r.player) r
+stats_regular : (id : StatId) (f : Stat → Stat)
+    → ((s : Stat) → (s.is_player ≡ true) × (s.removed ≡ false) → ((f s).is_player ≡ true) × ((f s).removed ≡ false)) → (b : Board)
+    → IsRegularBoard b
+    → IsRegularBoard (change_stats (change_such (λ x. same_stat x.id id) f) b)
+stats_regular id f keeps b r =
+    with_stats b (change_such (λ x. same_stat x.id id) f b.stats) (player_changed (λ x. same_stat x.id id) f b.stats keeps r.player) r
 
 -- ---- the world of a file
 
@@ -147,7 +165,8 @@ opened_player s m t b (x ∷ xs) le = (refl, refl)
 opened_regular : (s : Stamp) (n m t boards : ℕ) (b : BoardData) → IsNormalBoard boards b → IsRegularBoard (opened_board s n m t b)
 opened_regular s n m t boards b h = record { texts = (h.name, h.properties.message); tiles = h.tiles; player = opened_player s m t b b.stats h.some; title_stays = λ k. refl }
 
-all_opened : (s : Stamp) (n m t boards : ℕ) (bs : List BoardData) → AllByRecursion (IsNormalBoard boards) bs → AllByRecursion IsRegularBoard (opened_boards_from s n m t bs)
+all_opened : (s : Stamp) (n m t boards : ℕ) (bs : List BoardData) → AllByRecursion (IsNormalBoard boards) bs
+    → AllByRecursion IsRegularBoard (opened_boards_from s n m t bs)
 all_opened s n m t boards [] h = tt
 all_opened s n m t boards (b ∷ bs) h = (opened_regular s n m t boards b h.0, all_opened s (n + 1) (m + length b.stats) (t + programs_before (length b.stats) b.stats) boards bs h.1)
 
@@ -155,18 +174,23 @@ all_opened s n m t boards (b ∷ bs) h = (opened_regular s n m t boards b h.0, a
 abbrev pub ReadIsNormal : Type 0
 ReadIsNormal = (bytes : List ℕ) (w : Contents) → world_at bytes ≡ Ok w → HasNormalParts w
 
-world_regular : (s : Stamp) (r : Result Contents WorldError) (p : Plain) → ((w : Contents) → r ≡ Ok w → HasNormalParts w) → IsRegular p → IsRegular (open_world s r p)
+world_regular : (s : Stamp) (r : Result Contents WorldError) (p : Plain) → ((w : Contents) → r ≡ Ok w → HasNormalParts w) → IsRegular p
+    → IsRegular (open_world s r p)
 world_regular s (Err e) p normal h = h
 world_regular s (Ok w) p normal h =
     let n = normal w refl in
     record {
       header = record { numbers = refl; keys = n.header.keys; world_name = n.header.name; flags = n.header.flags; each_flag = n.header.each_flag };
-      boards = all_joined IsRegularBoard p.boards (opened_boards s w.boards) h.boards (all_opened s 0 0 0 (length w.boards) w.boards n.boards);
+      boards =
+          all_joined IsRegularBoard p.boards (opened_boards s w.boards) h.boards (all_opened s 0 0 0 (length w.boards) w.boards n.boards);
     }
 
 -- ---- every edit
 
-in_range : (a r n g : Bool) → cond (not a) (Some cause.Stamp) (cond (not r) (Some cause.Range) (cond (not n) (Some cause.Order) (cond (not g) (Some cause.Genesis) None))) ≡ None → r ≡ true
+in_range : (a r n g : Bool)
+    → cond (not a) (Some cause.Stamp) (cond (not r) (Some cause.Range) (cond (not n) (Some cause.Order) (cond (not g) (Some cause.Genesis) None)))
+    ≡ None
+    → r ≡ true
 in_range false r n g h = absurd (cc)
 in_range true false n g h = absurd (cc)
 in_range true true n g h = refl

@@ -15,7 +15,9 @@ pub taken_on-append : (p : Document) (es fs : List Edit) → taken_on p (es ++ f
 taken_on-append p [] fs = refl
 taken_on-append p (e ∷ es) fs = go (can p e) (taken_on-append (step p e) es fs)
   where
-    go : (b : Bool) → taken_on (step p e) (es ++ fs) ≡ taken_on (step p e) es ++ taken_on (replay_on (step p e) es) fs → cond b (e ∷ taken_on (step p e) (es ++ fs)) (taken_on (step p e) (es ++ fs)) ≡ cond b (e ∷ taken_on (step p e) es) (taken_on (step p e) es) ++ taken_on (replay_on (step p e) es) fs
+    go : (b : Bool) → taken_on (step p e) (es ++ fs) ≡ taken_on (step p e) es ++ taken_on (replay_on (step p e) es) fs
+        → cond b (e ∷ taken_on (step p e) (es ++ fs)) (taken_on (step p e) (es ++ fs))
+        ≡ cond b (e ∷ taken_on (step p e) es) (taken_on (step p e) es) ++ taken_on (replay_on (step p e) es) fs
     go true more = ap (λ rest. e ∷ rest) more
     go false more = more
 
@@ -23,7 +25,9 @@ pub held_on-append : (p : Document) (es fs : List Edit) → held_on p (es ++ fs)
 held_on-append p [] fs = refl
 held_on-append p (e ∷ es) fs = go (can p e) (held_on-append (step p e) es fs)
   where
-    go : (b : Bool) → held_on (step p e) (es ++ fs) ≡ held_on (step p e) es ++ held_on (replay_on (step p e) es) fs → cond b (held_on (step p e) (es ++ fs)) (e ∷ held_on (step p e) (es ++ fs)) ≡ cond b (held_on (step p e) es) (e ∷ held_on (step p e) es) ++ held_on (replay_on (step p e) es) fs
+    go : (b : Bool) → held_on (step p e) (es ++ fs) ≡ held_on (step p e) es ++ held_on (replay_on (step p e) es) fs
+        → cond b (held_on (step p e) (es ++ fs)) (e ∷ held_on (step p e) (es ++ fs))
+        ≡ cond b (held_on (step p e) es) (e ∷ held_on (step p e) es) ++ held_on (replay_on (step p e) es) fs
     go true more = more
     go false more = ap (λ rest. e ∷ rest) more
 

@@ -70,8 +70,10 @@ can-same p q e h = ap (λ made. list_all made (names_of e.op)) (fun_ext h)
 step-same : (p q : Document) (e : Edit) → MadeTheSame p q → MadeTheSame (step p e) (step q e)
 step-same p q e h x = go (can p e) refl (can q e) refl
   where
-    go : (b : Bool) → can p e ≡ b → (c : Bool) → can q e ≡ c → has (cond b (do_edit p e) (hold p e)) x ≡ has (cond c (do_edit q e) (hold q e)) x
-    go true b true c = has-do_op e.stamp e.op p x b ∙ ap (λ made. grown made e.stamp e.op x) (fun_ext h) ∙ sym (has-do_op e.stamp e.op q x c)
+    go : (b : Bool) → can p e ≡ b → (c : Bool) → can q e ≡ c
+        → has (cond b (do_edit p e) (hold p e)) x ≡ has (cond c (do_edit q e) (hold q e)) x
+    go true b true c =
+        has-do_op e.stamp e.op p x b ∙ ap (λ made. grown made e.stamp e.op x) (fun_ext h) ∙ sym (has-do_op e.stamp e.op q x c)
     go true b false c = let k = can-same p q e h in absurd (cc)
     go false b true c = let k = can-same p q e h in absurd (cc)
     go false b false c = has-hold p e x ∙ h x ∙ sym (has-hold q e x)

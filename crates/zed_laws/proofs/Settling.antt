@@ -31,11 +31,15 @@ can-before q ds e c h = go (can q e) refl
 abbrev Wait : (Edit → Bool) → Document → List Edit → Type 0
 Wait test z es = AllByRecursion (λ e. test e ≡ false → can z e ≡ false) es
 
-settled-on : (test : Edit → Bool) (p q : Document) (es : List Edit) → MadeTheSame p q → AllCan q (filter test es) → Wait test (all_done q (filter test es)) es → (taken_on p es ≡ filter test es) × (held_on p es ≡ filter (λ e. not (test e)) es)
+settled-on : (test : Edit → Bool) (p q : Document) (es : List Edit) → MadeTheSame p q → AllCan q (filter test es)
+    → Wait test (all_done q (filter test es)) es
+    → (taken_on p es ≡ filter test es) × (held_on p es ≡ filter (λ e. not (test e)) es)
 settled-on test p q [] m c w = (refl, refl)
 settled-on test p q (e ∷ es) m c w = go (λ p' q' m' c' w'. settled-on test p' q' es m' c' w') (test e) refl
   where
-    go : ((p' q' : Document) → MadeTheSame p' q' → AllCan q' (filter test es) → Wait test (all_done q' (filter test es)) es → (taken_on p' es ≡ filter test es) × (held_on p' es ≡ filter (λ f. not (test f)) es)) → (b : Bool) → test e ≡ b → (taken_on p (e ∷ es) ≡ filter test (e ∷ es)) × (held_on p (e ∷ es) ≡ filter (λ f. not (test f)) (e ∷ es))
+    go : ((p' q' : Document) → MadeTheSame p' q' → AllCan q' (filter test es) → Wait test (all_done q' (filter test es)) es → (taken_on p' es ≡ filter test es) × (held_on p' es ≡ filter (λ f. not (test f)) es))
+        → (b : Bool) → test e ≡ b
+        → (taken_on p (e ∷ es) ≡ filter test (e ∷ es)) × (held_on p (e ∷ es) ≡ filter (λ f. not (test f)) (e ∷ es))
     go more true b =
         let c' : AllCan q (e ∷ filter test es) = rw b at c in
         let P : Bool → Type 0 = λ v. Wait test (all_done q (cond v (e ∷ filter test es) (filter test es))) es in

@@ -19,7 +19,10 @@ use Rattle.zed_laws.proofs.StatReads.{IsStatField, read-stat}
 use Rattle.zed_laws.proofs.Winning.{IsStepwise, wins}
 
 -- a number that is set changes nothing beside the numbers
-number-apart : {V : Type 0} (value : Stat → V) → ((x : Stat) (ns : List ℤ) → value (record x { fields = record x.fields { numbers = ns } }) ≡ value x) → ((x : Stat) (n : ℤ) → value (record x { position = n }) ≡ value x) → (o : Option ℕ) (n : ℤ) (x : Stat) → value (with_number o n x) ≡ value x
+number-apart : {V : Type 0} (value : Stat → V)
+    → ((x : Stat) (ns : List ℤ) → value (record x { fields = record x.fields { numbers = ns } }) ≡ value x)
+    → ((x : Stat) (n : ℤ) → value (record x { position = n }) ≡ value x) → (o : Option ℕ) (n : ℤ) (x : Stat)
+    → value (with_number o n x) ≡ value x
 number-apart value numbers position (Some i) n x = numbers x (slice_set x.fields.numbers i n)
 number-apart value numbers position None n x = position x n
 
@@ -65,7 +68,8 @@ is_number Position _ x r = refl
 
 pub is_third_parameter : IsStatField third_parameter
 is_third_parameter (SetStat y (stat.P3 v)) x r = refl
-is_third_parameter (SetStat y (stat.Number g m)) x r = number-apart third_parameter.value (λ z ns. refl) (λ z m. refl) (stat_number_index g) m x
+is_third_parameter (SetStat y (stat.Number g m)) x r =
+    number-apart third_parameter.value (λ z ns. refl) (λ z m. refl) (stat_number_index g) m x
 is_third_parameter (SetStat y _) x r = refl
 is_third_parameter _ x r = refl
 

@@ -44,19 +44,26 @@ has-remembering p stamps (element t a) = refl
 can-remembering : (p : Document) (stamps : List Stamp) (e : Edit) → can (remembering p stamps) e ≡ can p e
 can-remembering p stamps e = ap (λ made. list_all made (names_of e.op)) (fun_ext (has-remembering p stamps))
 
-opened-remembering : (s : Stamp) (r : Result Contents WorldError) (p : Document) (stamps : List Stamp) → open_world s r (remembering p stamps) ≡ remembering (open_world s r p) stamps
+opened-remembering : (s : Stamp) (r : Result Contents WorldError) (p : Document) (stamps : List Stamp)
+    → open_world s r (remembering p stamps) ≡ remembering (open_world s r p) stamps
 opened-remembering s (Ok w) p stamps = refl
 opened-remembering s (Err e) p stamps = refl
 
-do_op-remembering : (s : Stamp) (op : Op) (p : Document) (stamps : List Stamp) → do_op s op (remembering p stamps) ≡ remembering (do_op s op p) stamps
+do_op-remembering : (s : Stamp) (op : Op) (p : Document) (stamps : List Stamp)
+    → do_op s op (remembering p stamps) ≡ remembering (do_op s op p) stamps
 do_op-remembering s (Genesis bytes) p stamps = opened-remembering s (world_at bytes) p stamps
 do_op-remembering s _ p stamps = refl
 
-taken_make : (p : Document) (stamps : List Stamp) (es : List Edit) → replay_on (remembering p stamps) (taken_on p es) ≡ remembering (replay_on p es) stamps
+taken_make : (p : Document) (stamps : List Stamp) (es : List Edit)
+    → replay_on (remembering p stamps) (taken_on p es) ≡ remembering (replay_on p es) stamps
 taken_make p stamps [] = refl
 taken_make p stamps (e ∷ es) = go (can p e) refl (taken_make (do_edit p e) stamps es) (taken_make (hold p e) stamps es)
   where
-    go : (b : Bool) → can p e ≡ b → replay_on (remembering (do_edit p e) stamps) (taken_on (do_edit p e) es) ≡ remembering (replay_on (do_edit p e) es) stamps → replay_on (remembering (hold p e) stamps) (taken_on (hold p e) es) ≡ remembering (replay_on (hold p e) es) stamps → replay_on (remembering p stamps) (cond b (e ∷ taken_on (cond b (do_edit p e) (hold p e)) es) (taken_on (cond b (do_edit p e) (hold p e)) es)) ≡ remembering (replay_on (cond b (do_edit p e) (hold p e)) es) stamps
+    go : (b : Bool) → can p e ≡ b
+        → replay_on (remembering (do_edit p e) stamps) (taken_on (do_edit p e) es) ≡ remembering (replay_on (do_edit p e) es) stamps
+        → replay_on (remembering (hold p e) stamps) (taken_on (hold p e) es) ≡ remembering (replay_on (hold p e) es) stamps
+        → replay_on (remembering p stamps) (cond b (e ∷ taken_on (cond b (do_edit p e) (hold p e)) es) (taken_on (cond b (do_edit p e) (hold p e)) es))
+        ≡ remembering (replay_on (cond b (do_edit p e) (hold p e)) es) stamps
     go true c done passed =
         let k = can-remembering p stamps e ∙ c in
         let l : step (remembering p stamps) e ≡ remembering (do_edit p e) stamps = rw k (do_op-remembering e.stamp e.op p stamps) in
@@ -82,17 +89,20 @@ OpensNone _ = Unit {0}
 abbrev HasMore : Document → Document → Type 0
 HasMore p q = (x : Thing) → has p x ≡ true → has q x ≡ true
 
-pub all_more : (f g : Thing → Bool) → ((x : Thing) → f x ≡ true → g x ≡ true) → (ts : List Thing) → list_all f ts ≡ true → list_all g ts ≡ true
+pub all_more : (f g : Thing → Bool) → ((x : Thing) → f x ≡ true → g x ≡ true) → (ts : List Thing) → list_all f ts ≡ true
+    → list_all g ts ≡ true
 all_more f g m [] h = refl
 all_more f g m (t ∷ ts) h =
     let k = and_parts (f t) (list_all f ts) h in
     and_from (g t) (list_all g ts) (m t k.0) (all_more f g m ts k.1)
 
-grown_more : (p q : Document) (s : Stamp) (op : Op) (x : Thing) → OpensNone op → HasMore p q → grown (has p) s op x ≡ true → grown (has q) s op x ≡ true
+grown_more : (p q : Document) (s : Stamp) (op : Op) (x : Thing) → OpensNone op → HasMore p q → grown (has p) s op x ≡ true
+    → grown (has q) s op x ≡ true
 grown_more p q s (Genesis bytes) x o m h = absurd o
 grown_more p q s op x o m h = or_more (makes s op x) (has p x) (has q x) (m x) h
 
-do_edit_more : (p q : Document) (e : Edit) → OpensNone e.op → HasMore p q → can p e ≡ true → can q e ≡ true → HasMore (do_edit p e) (do_edit q e)
+do_edit_more : (p q : Document) (e : Edit) → OpensNone e.op → HasMore p q → can p e ≡ true → can q e ≡ true
+    → HasMore (do_edit p e) (do_edit q e)
 do_edit_more p q e o m c d x h =
     has-do_op e.stamp e.op q x d ∙ grown_more p q e.stamp e.op x o m (sym (has-do_op e.stamp e.op p x c) ∙ h)
 
@@ -127,7 +137,8 @@ opens_none (Genesis bytes) r s o b n =
     absurd (cc)
 opens_none _ r s o b n = tt
 
-all_open_none : (s : Stamp) (es : List Edit) → before s genesis_stamp ≡ false → AllFit es → AllByRecursion (λ e. before s e.stamp ≡ true) es → AllByRecursion (λ e. OpensNone e.op) es
+all_open_none : (s : Stamp) (es : List Edit) → before s genesis_stamp ≡ false → AllFit es → AllByRecursion (λ e. before s e.stamp ≡ true) es
+    → AllByRecursion (λ e. OpensNone e.op) es
 all_open_none s [] n f b = tt
 all_open_none s (e ∷ es) n f b = (opens_none e.op e.stamp s (good_own e f.0) b.0 n, all_open_none s es n f.1 b.1)
 
@@ -149,11 +160,14 @@ late_edit_holds_none e low high r f h c =
     let front : AllCan empty_document low = AllCan-front empty_document low high whole in
     let c' : can p e ≡ true = ap (λ q. can q e) (sym (replay_on-all_done empty_document low front)) ∙ c in
     let opens = all_open_none e.stamp high (own_behind e.op e.stamp (good_own e f.0)) f.1 (rising-high e low high r) in
-    let behind : AllCan (do_edit p e) high = AllCan-more p (do_edit p e) high opens (done_more p e c') (AllCan-tail empty_document low high whole) in
+    let behind : AllCan (do_edit p e) high =
+    AllCan-more p (do_edit p e) high opens (done_more p e c') (AllCan-tail empty_document low high whole) in
     none_held-AllCan empty_document (low ++ e ∷ high) (AllCan-append empty_document low (e ∷ high) front (c', behind))
 
 -- a document that has more holds no edit that the other does not
-held_fewer : (p q : Document) (es : List Edit) → AllByRecursion (λ e. OpensNone e.op) es → HasMore p q → (f : Edit) → Member f (held_on q es) → Member f (held_on p es)
+held_fewer : (p q : Document) (es : List Edit) → AllByRecursion (λ e. OpensNone e.op) es → HasMore p q → (f : Edit)
+    → Member f (held_on q es)
+    → Member f (held_on p es)
 held_fewer p q [] o m f h = h
 held_fewer p q (e ∷ es) o m f h =
     go (can p e) refl (can q e) refl (λ c d k. held_fewer (do_edit p e) (do_edit q e) es o.1 (do_edit_more p q e o.0 m c d) f k)
@@ -166,7 +180,11 @@ held_fewer p q (e ∷ es) o m f h =
     done : can q e ≡ true → HasMore (hold p e) (do_edit q e)
     done d x k = done_more q e d x (m x (sym (has-hold p e x) ∙ k))
 
-    go : (b : Bool) → can p e ≡ b → (c : Bool) → can q e ≡ c → (can p e ≡ true → can q e ≡ true → Member f (held_on (do_edit q e) es) → Member f (held_on (do_edit p e) es)) → (can q e ≡ true → Member f (held_on (do_edit q e) es) → Member f (held_on (hold p e) es)) → (Member f (held_on (hold q e) es) → Member f (held_on (hold p e) es)) → Member f (held_on p (e ∷ es))
+    go : (b : Bool) → can p e ≡ b → (c : Bool) → can q e ≡ c
+        → (can p e ≡ true → can q e ≡ true → Member f (held_on (do_edit q e) es) → Member f (held_on (do_edit p e) es))
+        → (can q e ≡ true → Member f (held_on (do_edit q e) es) → Member f (held_on (hold p e) es))
+        → (Member f (held_on (hold q e) es) → Member f (held_on (hold p e) es))
+        → Member f (held_on p (e ∷ es))
     go true b true c both right none = let k = rw c at h in rw b (both b c k)
     go true b false c both right none = let d = all_more (has p) (has q) m (names_of e.op) b in absurd (cc)
     go false b true c both right none = let k = rw c at h in rw b (inr (right c k))
@@ -176,7 +194,8 @@ held_fewer p q (e ∷ es) o m f h =
 
 Member-append : (f : Edit) (xs ys : List Edit) → Member f (xs ++ ys) → Member f xs ⊎ Member f ys
 Member-append f [] ys h = inr h
-Member-append f (x ∷ xs) ys h = elim h [ inl i ↦ inl (inl i) | inr k ↦ elim (Member-append f xs ys k) [ inl l ↦ inl (inr l) | inr l ↦ inr l ] ]
+Member-append f (x ∷ xs) ys h =
+    elim h [ inl i ↦ inl (inl i) | inr k ↦ elim (Member-append f xs ys k) [ inl l ↦ inl (inr l) | inr l ↦ inr l ] ]
 
 Member-left : (f : Edit) (xs ys : List Edit) → Member f xs → Member f (xs ++ ys)
 Member-left f [] ys h = absurd h
@@ -186,7 +205,8 @@ Member-right : (f : Edit) (xs ys : List Edit) → Member f ys → Member f (xs +
 Member-right f [] ys h = h
 Member-right f (x ∷ xs) ys h = inr (Member-right f xs ys h)
 
-held_with : (p : Document) (e f : Edit) (high : List Edit) → AllByRecursion (λ g. OpensNone g.op) high → Member f (held_on p (e ∷ high)) → (f ≡ e) ⊎ Member f (held_on p high)
+held_with : (p : Document) (e f : Edit) (high : List Edit) → AllByRecursion (λ g. OpensNone g.op) high → Member f (held_on p (e ∷ high))
+    → (f ≡ e) ⊎ Member f (held_on p high)
 held_with p e f high o h = go (can p e) refl
   where
     go : (b : Bool) → can p e ≡ b → (f ≡ e) ⊎ Member f (held_on p high)
@@ -202,8 +222,10 @@ pub late_edit_holds_no_other : LateEditHoldsNoOther
 late_edit_holds_no_other e f low high r g h =
     let p : Document = replay_on empty_document low in
     let opens = all_open_none e.stamp high (own_behind e.op e.stamp (good_own e g.0)) g.1 (rising-high e low high r) in
-    let k : Member f (held_on empty_document low ++ held_on p (e ∷ high)) = subst (Member f) (held_on-append empty_document low (e ∷ high)) (Member-from f (held (low ++ e ∷ high)) h) in
-    let back : Member f (held_on empty_document low ++ held_on p high) → Contains (held (low ++ high)) f = λ m. Member-to f (held (low ++ high)) (subst (Member f) (sym (held_on-append empty_document low high)) m) in
+    let k : Member f (held_on empty_document low ++ held_on p (e ∷ high)) =
+    subst (Member f) (held_on-append empty_document low (e ∷ high)) (Member-from f (held (low ++ e ∷ high)) h) in
+    let back : Member f (held_on empty_document low ++ held_on p high) → Contains (held (low ++ high)) f =
+    λ m. Member-to f (held (low ++ high)) (subst (Member f) (sym (held_on-append empty_document low high)) m) in
     elim (Member-append f (held_on empty_document low) (held_on p (e ∷ high)) k) [
       | inl m ↦ inr (back (Member-left f (held_on empty_document low) (held_on p high) m))
       | inr m ↦ elim (held_with p e f high opens m) [

@@ -59,40 +59,52 @@ place_below-not_of s r None h p = tt
 place_below-not_of s r (Some a) h p = grind (arith)
 
 -- marking dead keeps names, so it can change places with the skip rule
-pub kill-run : (x : ByteRange) (r : Stamp) (n : ℕ) (bytes : List ℕ) → same_stamp r x.stamp ≡ false → kill x (run_from r n bytes) ≡ run_from r n bytes
+pub kill-run : (x : ByteRange) (r : Stamp) (n : ℕ) (bytes : List ℕ) → same_stamp r x.stamp ≡ false
+    → kill x (run_from r n bytes) ≡ run_from r n bytes
 kill-run x r n [] h = refl
 kill-run x r n (b ∷ bytes) h = rw (h, kill-run x r (n + 1) bytes h)
 
-kill-pass_later : (s : Stamp) (x : ByteRange) (e xs : List TextByte) → kill x e ≡ e → pass_later s e (kill x xs) ≡ kill x (pass_later s e xs)
+kill-pass_later : (s : Stamp) (x : ByteRange) (e xs : List TextByte) → kill x e ≡ e
+    → pass_later s e (kill x xs) ≡ kill x (pass_later s e xs)
 kill-pass_later s x e [] h = sym h
 kill-pass_later s x e (y ∷ xs) h = go (kill-pass_later s x e xs h) (before s y.id.name.stamp) refl
   where
-    go : pass_later s e (kill x xs) ≡ kill x (pass_later s e xs) → (b : Bool) → before s y.id.name.stamp ≡ b → pass_later s e (kill x (y ∷ xs)) ≡ kill x (pass_later s e (y ∷ xs))
+    go : pass_later s e (kill x xs) ≡ kill x (pass_later s e xs) → (b : Bool) → before s y.id.name.stamp ≡ b
+        → pass_later s e (kill x (y ∷ xs)) ≡ kill x (pass_later s e (y ∷ xs))
     go more true b = rw b (ap (λ rest. kill_within x y ∷ rest) more)
     go more false b = rw b (rw (kill-append, h) refl)
 
-kill-behind : (s : Stamp) (x : ByteRange) (e : List TextByte) (a : ElemId) (xs : List TextByte) → kill x e ≡ e → behind a (pass_later s e) (kill x xs) ≡ kill x (behind a (pass_later s e) xs)
+kill-behind : (s : Stamp) (x : ByteRange) (e : List TextByte) (a : ElemId) (xs : List TextByte) → kill x e ≡ e
+    → behind a (pass_later s e) (kill x xs) ≡ kill x (behind a (pass_later s e) xs)
 kill-behind s x e a [] h = refl
 kill-behind s x e a (y ∷ xs) h = go (kill-behind s x e a xs h) (same_element y.id a) refl
   where
-    go : behind a (pass_later s e) (kill x xs) ≡ kill x (behind a (pass_later s e) xs) → (b : Bool) → same_element y.id a ≡ b → behind a (pass_later s e) (kill x (y ∷ xs)) ≡ kill x (behind a (pass_later s e) (y ∷ xs))
+    go : behind a (pass_later s e) (kill x xs) ≡ kill x (behind a (pass_later s e) xs) → (b : Bool) → same_element y.id a ≡ b
+        → behind a (pass_later s e) (kill x (y ∷ xs)) ≡ kill x (behind a (pass_later s e) (y ∷ xs))
     go more true b = rw b (ap (λ rest. kill_within x y ∷ rest) (kill-pass_later s x e xs h))
     go more false b = rw b (ap (λ rest. kill_within x y ∷ rest) more)
 
-kill-put_late : (s : Stamp) (x : ByteRange) (e : List TextByte) (a : Option ElemId) (xs : List TextByte) → kill x e ≡ e → put_late a s e (kill x xs) ≡ kill x (put_late a s e xs)
+kill-put_late : (s : Stamp) (x : ByteRange) (e : List TextByte) (a : Option ElemId) (xs : List TextByte) → kill x e ≡ e
+    → put_late a s e (kill x xs) ≡ kill x (put_late a s e xs)
 kill-put_late s x e None xs h = kill-pass_later s x e xs h
 kill-put_late s x e (Some a) xs h = kill-behind s x e a xs h
 
 -- a later edit and the skip rule: in either order
-pub put_late-step : (t : TextId) (s r : Stamp) (op : Op) (a : Option ElemId) (bytes : List ℕ) (xs : List TextByte) → before s r ≡ true → PlaceBelow s a → NamesNoByteOf s op → put_late a s (run_from s 0 bytes) (elements_step t r op xs) ≡ elements_step t r op (put_late a s (run_from s 0 bytes) xs)
+pub put_late-step : (t : TextId) (s r : Stamp) (op : Op) (a : Option ElemId) (bytes : List ℕ) (xs : List TextByte) → before s r ≡ true
+    → PlaceBelow s a → NamesNoByteOf s op
+    → put_late a s (run_from s 0 bytes) (elements_step t r op xs) ≡ elements_step t r op (put_late a s (run_from s 0 bytes) xs)
 put_late-step t s r (TextInsert u after new) a bytes xs h p n = go (same_text u t) refl
   where
-    go : (b : Bool) → same_text u t ≡ b → put_late a s (run_from s 0 bytes) (elements_step t r (TextInsert u after new) xs) ≡ elements_step t r (TextInsert u after new) (put_late a s (run_from s 0 bytes) xs)
+    go : (b : Bool) → same_text u t ≡ b
+        → put_late a s (run_from s 0 bytes) (elements_step t r (TextInsert u after new) xs)
+        ≡ elements_step t r (TextInsert u after new) (put_late a s (run_from s 0 bytes) xs)
     go true b = rw b (put_late-put_after s (run_from s 0 bytes) (run_from r 0 new) a after xs (run-place_not_in s 0 bytes after n) (run-place_not_in r 0 new a (place_below-not_of s r a h p)) (run-later s r 0 new h))
     go false b = rw b
 put_late-step t s r (TextDelete u x) a bytes xs h p n = go (same_text u t) refl
   where
-    go : (b : Bool) → same_text u t ≡ b → put_late a s (run_from s 0 bytes) (elements_step t r (TextDelete u x) xs) ≡ elements_step t r (TextDelete u x) (put_late a s (run_from s 0 bytes) xs)
+    go : (b : Bool) → same_text u t ≡ b
+        → put_late a s (run_from s 0 bytes) (elements_step t r (TextDelete u x) xs)
+        ≡ elements_step t r (TextDelete u x) (put_late a s (run_from s 0 bytes) xs)
     go true b = rw b (kill-put_late s x (run_from s 0 bytes) a xs (kill-run x s 0 bytes n))
     go false b = rw b
 put_late-step t s r _ a bytes xs h p n = refl
@@ -101,14 +113,19 @@ put_late-step t s r _ a bytes xs h p n = refl
 abbrev pub LaterEdits : Stamp → List Edit → Type 0
 LaterEdits s es = AllByRecursion (λ e. (before s e.stamp ≡ true) × NamesNoByteOf s e.op) es
 
-pub put_late-steps : (t : TextId) (s : Stamp) (es : List Edit) (a : Option ElemId) (bytes : List ℕ) (xs : List TextByte) → PlaceBelow s a → LaterEdits s es → put_late a s (run_from s 0 bytes) (elements_steps t es xs) ≡ elements_steps t es (put_late a s (run_from s 0 bytes) xs)
+pub put_late-steps : (t : TextId) (s : Stamp) (es : List Edit) (a : Option ElemId) (bytes : List ℕ) (xs : List TextByte) → PlaceBelow s a
+    → LaterEdits s es
+    → put_late a s (run_from s 0 bytes) (elements_steps t es xs) ≡ elements_steps t es (put_late a s (run_from s 0 bytes) xs)
 put_late-steps t s [] a bytes xs p l = refl
 put_late-steps t s (e ∷ es) a bytes xs p l =
     put_late-steps t s es a bytes (elements_step t e.stamp e.op xs) p l.1
     ∙ ap (elements_steps t es) (put_late-step t s e.stamp e.op a bytes xs l.0.0 p l.0.1)
 
 -- the skip rule gives the text that the edits give in rising stamp order
-pub put_late-sorted : (t : TextId) (s : Stamp) (low high : List Edit) (a : Option ElemId) (bytes : List ℕ) (xs : List TextByte) → PlaceBelow s a → NoneLater s (elements_steps t low xs) → LaterEdits s high → put_late a s (run_from s 0 bytes) (elements_steps t high (elements_steps t low xs)) ≡ elements_steps t high (put_after a (run_from s 0 bytes) (elements_steps t low xs))
+pub put_late-sorted : (t : TextId) (s : Stamp) (low high : List Edit) (a : Option ElemId) (bytes : List ℕ) (xs : List TextByte)
+    → PlaceBelow s a → NoneLater s (elements_steps t low xs) → LaterEdits s high
+    → put_late a s (run_from s 0 bytes) (elements_steps t high (elements_steps t low xs))
+    ≡ elements_steps t high (put_after a (run_from s 0 bytes) (elements_steps t low xs))
 put_late-sorted t s low high a bytes xs p n l =
     put_late-steps t s high a bytes (elements_steps t low xs) p l
     ∙ ap (elements_steps t high) (put_late-none_later s (run_from s 0 bytes) a (elements_steps t low xs) n)

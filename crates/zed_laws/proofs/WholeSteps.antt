@@ -46,7 +46,8 @@ use Rattle.zed_laws.specs.Whole.{IsWholeHeader, IsWholeStat, IsWholeBoard, IsWho
 -- ---- the header
 
 header_whole : (setting : HeaderSetting) (h : Header) → IsWholeHeader h → IsWholeHeader (set_header setting h)
-header_whole (header.Number f n) h r = record { numbers = length-set h.numbers (header_number_index f) n ∙ r.numbers; keys = r.keys; flags = r.flags }
+header_whole (header.Number f n) h r =
+    record { numbers = length-set h.numbers (header_number_index f) n ∙ r.numbers; keys = r.keys; flags = r.flags }
 header_whole (header.Key k b) h r = record { numbers = r.numbers; keys = length-set h.keys (key_index k) b ∙ r.keys; flags = r.flags }
 header_whole (header.Saved b) h r = record { numbers = r.numbers; keys = r.keys; flags = r.flags }
 header_whole (header.CurrentBoard b) h r = record { numbers = r.numbers; keys = r.keys; flags = r.flags }
@@ -58,8 +59,10 @@ header_whole (header.Flag k s) h r = record { numbers = r.numbers; keys = r.keys
 property_whole : (setting : BoardSetting) (b : Board) → IsWholeBoard b → IsWholeBoard (set_board_property setting b)
 property_whole (property.Byte f n) b r = record { tiles = r.tiles; bytes = length-set b.properties.bytes (board_byte_index f) n ∙ r.bytes; flags = r.flags; exits = r.exits; texts = r.texts; stats = r.stats }
 property_whole (property.Flag f v) b r = record { tiles = r.tiles; bytes = r.bytes; flags = length-set b.properties.flags (board_flag_index f) v ∙ r.flags; exits = r.exits; texts = r.texts; stats = r.stats }
-property_whole (property.TimeLimit n) b r = record { tiles = r.tiles; bytes = r.bytes; flags = r.flags; exits = r.exits; texts = r.texts; stats = r.stats }
-property_whole (property.Rank n) b r = record { tiles = r.tiles; bytes = r.bytes; flags = r.flags; exits = r.exits; texts = r.texts; stats = r.stats }
+property_whole (property.TimeLimit n) b r =
+    record { tiles = r.tiles; bytes = r.bytes; flags = r.flags; exits = r.exits; texts = r.texts; stats = r.stats }
+property_whole (property.Rank n) b r =
+    record { tiles = r.tiles; bytes = r.bytes; flags = r.flags; exits = r.exits; texts = r.texts; stats = r.stats }
 property_whole (property.Exit f o) b r = record { tiles = r.tiles; bytes = r.bytes; flags = r.flags; exits = length-set b.properties.exits (side_index f) o ∙ r.exits; texts = r.texts; stats = r.stats }
 property_whole (property.Text f s) b r = record { tiles = r.tiles; bytes = r.bytes; flags = r.flags; exits = r.exits; texts = length-set b.properties.texts (board_text_index f) s ∙ r.texts; stats = r.stats }
 
@@ -82,7 +85,8 @@ number_whole (Some i) n s r = record { bytes = r.bytes; numbers = length-set s.f
 number_whole None n s r = record { bytes = r.bytes; numbers = r.numbers; stays = r.stays }
 
 stat_whole : (setting : StatSetting) (s : Stat) → IsWholeStat s → IsWholeStat (set_stat setting s)
-stat_whole (stat.Byte f n) s r = record { bytes = length-set s.fields.bytes (stat_byte_index f) n ∙ r.bytes; numbers = r.numbers; stays = r.stays }
+stat_whole (stat.Byte f n) s r =
+    record { bytes = length-set s.fields.bytes (stat_byte_index f) n ∙ r.bytes; numbers = r.numbers; stays = r.stays }
 stat_whole (stat.Number f n) s r = number_whole (stat_number_index f) n s r
 stat_whole (stat.P3 p) s r = record { bytes = r.bytes; numbers = r.numbers; stays = r.stays }
 stat_whole (stat.Follower o) s r = record { bytes = r.bytes; numbers = r.numbers; stays = r.stays }
@@ -92,29 +96,34 @@ stat_whole (stat.Text o) s r = record { bytes = r.bytes; numbers = r.numbers; st
 gone_whole : (s : Stat) → IsWholeStat s → IsWholeStat (remove_stat s)
 gone_whole s r = record { bytes = r.bytes; numbers = r.numbers; stays = λ k. ap not k }
 
-changed_whole : (x : StatId) (change : Stat → Stat) → ((s : Stat) → IsWholeStat s → IsWholeStat (change s)) → (b : Board) → IsWholeBoard b → IsWholeBoard (change_stats (change_such (λ s. same_stat s.id x) change) b)
+changed_whole : (x : StatId) (change : Stat → Stat) → ((s : Stat) → IsWholeStat s → IsWholeStat (change s)) → (b : Board) → IsWholeBoard b
+    → IsWholeBoard (change_stats (change_such (λ s. same_stat s.id x) change) b)
 changed_whole x change keeps b r = with_stats b (change_such (λ s. same_stat s.id x) change b.stats) (each_changed IsWholeStat (λ s. same_stat s.id x) change b.stats (λ s same h. keeps s h) r.stats) r
 
 -- ---- the world of a file
 
-opened_stats_whole : (s : Stamp) (m t : ℕ) (b : BoardData) (j : ℕ) (xs : List StatData) → AllByRecursion IsWholeStat (map_from (opened_stat s m t b) j xs)
+opened_stats_whole : (s : Stamp) (m t : ℕ) (b : BoardData) (j : ℕ) (xs : List StatData)
+    → AllByRecursion IsWholeStat (map_from (opened_stat s m t b) j xs)
 opened_stats_whole s m t b j [] = tt
 opened_stats_whole s m t b j (x ∷ xs) = (record { bytes = refl; numbers = refl; stays = λ k. refl }, opened_stats_whole s m t b (j + 1) xs)
 
-opened_whole : (s : Stamp) (n m t boards : ℕ) (bs : List BoardData) → AllByRecursion (IsNormalBoard boards) bs → AllByRecursion IsWholeBoard (opened_boards_from s n m t bs)
+opened_whole : (s : Stamp) (n m t boards : ℕ) (bs : List BoardData) → AllByRecursion (IsNormalBoard boards) bs
+    → AllByRecursion IsWholeBoard (opened_boards_from s n m t bs)
 opened_whole s n m t boards [] h = tt
 opened_whole s n m t boards (b ∷ bs) h = (
   record { tiles = h.0.tiles; bytes = refl; flags = refl; exits = refl; texts = refl; stats = opened_stats_whole s m t b 0 b.stats },
   opened_whole s (n + 1) (m + length b.stats) (t + programs_before (length b.stats) b.stats) boards bs h.1,
 )
 
-world_whole : (s : Stamp) (r : Result Contents WorldError) (p : Plain) → ((w : Contents) → r ≡ Ok w → HasNormalParts w) → IsWhole p → IsWhole (open_world s r p)
+world_whole : (s : Stamp) (r : Result Contents WorldError) (p : Plain) → ((w : Contents) → r ≡ Ok w → HasNormalParts w) → IsWhole p
+    → IsWhole (open_world s r p)
 world_whole s (Err e) p normal h = h
 world_whole s (Ok w) p normal h =
     let n = normal w refl in
     record {
       header = record { numbers = refl; keys = n.header.keys; flags = n.header.flags };
-      boards = all_joined IsWholeBoard p.boards (opened_boards s w.boards) h.boards (opened_whole s 0 0 0 (length w.boards) w.boards n.boards);
+      boards =
+          all_joined IsWholeBoard p.boards (opened_boards s w.boards) h.boards (opened_whole s 0 0 0 (length w.boards) w.boards n.boards);
     }
 
 -- ---- every edit

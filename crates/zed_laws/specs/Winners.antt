@@ -92,7 +92,8 @@ find_board b bs = find (λ x. same_board x.id b) bs
 abbrev pub of_board : {V : Type 0} → BoardId → Field Board V → Register V
 of_board b f = record {
   read = λ p. option_map f.value (find_board b p.boards);
-  writes = λ e. option_or (option_map f.value (find_board b (made_boards e.stamp e.op))) (if changes_board b e.op then f.set e.op else None);
+  writes =
+      λ e. option_or (option_map f.value (find_board b (made_boards e.stamp e.op))) (if changes_board b e.op then f.set e.op else None);
 }
 
 -- ---- stats

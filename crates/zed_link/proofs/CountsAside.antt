@@ -31,7 +31,8 @@ leaves_aside c d bytes es p (Err RecordLength) left h = (h.0, all_aside c d es l
 leaves_aside c d bytes es p (Err (BadEdit cause)) left h = (h.0, all_aside c d es left h.1)
 leaves_aside c d bytes es p (Err CutShort) left h = (h.0, all_aside c d es left h.1)
 leaves_aside c d bytes es p (Err (Clash s)) left h = delivers_aside c d es (Err (document.Clash s)) left h
-leaves_aside c d bytes es p (Err Memory) left h = elim h [ inl s ↦ inl (stops_aside c d es left s) | inr q ↦ inr (q.0, all_aside c d es left q.1) ]
+leaves_aside c d bytes es p (Err Memory) left h =
+    elim h [ inl s ↦ inl (stops_aside c d es left s) | inr q ↦ inr (q.0, all_aside c d es left q.1) ]
 leaves_aside c d bytes es p (Err Stale) left h = h
 
 pub pull_aside : (c : Counts) (d : Replica) (old new : Option LinkEnds) (count count' : ℕ) (r : Result Pulled LinkError) (left : List Edit)

@@ -29,7 +29,8 @@ Deliveries = Result (Unit {0}) DocumentError
 -- all of a list were delivered, and then others
 pub delivered_more : (d m : Replica) (xs ys : List Edit) (r : Deliveries) (left : List Edit) → m.world ≡ d.world → m.is_stale ≡ d.is_stale
     → AllDelivered d xs m.edits → DeliversEach m ys r left → DeliversEach d (xs ++ ys) r left
-delivered_more d m [] ys r left w s all more = delivers_aside m.counts d ys r left (subst (λ q. DeliversEach q ys r left) (replica_is d m w all.1 s) more)
+delivered_more d m [] ys r left w s all more =
+    delivers_aside m.counts d ys r left (subst (λ q. DeliversEach q ys r left) (replica_is d m w all.1 s) more)
 delivered_more d m (x ∷ xs) ys r left w s (inl one) more = inl (one.0, one.1, delivered_more (after_edit x d) m xs ys r left w s one.2 more)
 delivered_more d m (x ∷ xs) ys r left w s (inr one) more = absurd (let allowed : Deliveries = Ok tt in let refused : Deliveries = Err one.0 in let bad : allowed ≡ refused = one.2 in cc)
 
@@ -44,7 +45,8 @@ pub stop_is_front : (d : Replica) (es left : List Edit) → StopsForMemory d es 
 stop_is_front d es left (front, e, rest, is, all, may) = (front, e ∷ rest, is, all)
 
 -- an edit that may take memory in a document may in one with the same edits
-may_take : (d m : Replica) (e : Edit) (left : List Edit) → m.is_stale ≡ d.is_stale → left ≡ m.edits → MayTakeMemoryFor m e → MayTakeMemoryFor (record d { edits = left }) e
+may_take : (d m : Replica) (e : Edit) (left : List Edit) → m.is_stale ≡ d.is_stale → left ≡ m.edits → MayTakeMemoryFor m e
+    → MayTakeMemoryFor (record d { edits = left }) e
 may_take d m e left s is may =
     (sym s ∙ may.0, subst (λ l. HangsOnItsWorld e ⊎ (Fits e × (edit_with e.stamp l ≡ None))) (sym is) may.1)
 
@@ -53,13 +55,15 @@ pub all_is_front : (d : Replica) (es left : List Edit) → AllDelivered d es lef
 all_is_front d es left all = (es, [], sym (append-nil es), all)
 
 -- what becomes of a list, and then of others
-pub states_more : (d : Replica) (xs ys mid : List Edit) → AllDelivered d xs mid → states d.edits (xs ++ ys) ≡ states d.edits xs ++ states mid ys
+pub states_more : (d : Replica) (xs ys mid : List Edit) → AllDelivered d xs mid
+    → states d.edits (xs ++ ys) ≡ states d.edits xs ++ states mid ys
 states_more d [] ys mid all = ap (λ l. states l ys) (sym all.1)
 states_more d (x ∷ xs) ys mid (inl one) = ap (λ l. state_in d.edits x ∷ l) (states_more (after_edit x d) xs ys mid one.2)
 states_more d (x ∷ xs) ys mid (inr one) = absurd (let allowed : Deliveries = Ok tt in let refused : Deliveries = Err one.0 in let bad : allowed ≡ refused = one.2 in cc)
 
 -- what was refused stays so, whatever edits come behind it
-pub refused_before : (d : Replica) (xs ys : List Edit) (e : DocumentError) (left : List Edit) → DeliversEach d xs (Err e) left → DeliversEach d (xs ++ ys) (Err e) left
+pub refused_before : (d : Replica) (xs ys : List Edit) (e : DocumentError) (left : List Edit) → DeliversEach d xs (Err e) left
+    → DeliversEach d (xs ++ ys) (Err e) left
 refused_before d [] ys e left all = absurd (let allowed : Deliveries = Ok tt in let refused : Deliveries = Err e in let bad : refused ≡ allowed = all.0 in cc)
 refused_before d (x ∷ xs) ys e left (inl one) = inl (one.0, one.1, refused_before (after_edit x d) xs ys e left one.2)
 refused_before d (x ∷ xs) ys e left (inr one) = inr one
@@ -71,7 +75,8 @@ counted_more d xs ys mid old got new all o g is =
     is ∙ ap (λ z. plus z got) o ∙ ap (plus (tally (states d.edits xs))) g ∙ sym (tally_more (states d.edits xs) (states mid ys)) ∙ ap tally (sym (states_more d xs ys mid all))
 
 -- after edits that were all delivered one more is refused
-pub one_stops : (d m : Replica) (done rest all : List Edit) (one : Edit) (e : LinkError) (left : List Edit) → m.world ≡ d.world → m.is_stale ≡ d.is_stale
+pub one_stops : (d m : Replica) (done rest all : List Edit) (one : Edit) (e : LinkError) (left : List Edit) → m.world ≡ d.world
+    → m.is_stale ≡ d.is_stale
     → all ≡ done ++ one ∷ rest → AllDelivered d done m.edits → DeliversOne m one (Err e) left → IsStopped d all e left
 one_stops d m done rest all one e left w s whole came (inl memory) =
     inl (memory.0, (done, one, rest, whole, subst (AllDelivered d done) (sym memory.2) came, may_take d m one left s memory.2 memory.1))

@@ -31,7 +31,8 @@ took_more xs ys (Some t) b c h k =
     (l.0, (l.1.0 ∙ ap (λ z. z ++ ys) h.1.0 ∙ append_assoc t.taken xs ys, l.1.1 ∙ h.1.1, l.1.2 ∙ h.1.2), l.2)
 
 -- bytes were taken, and then a front of the rest
-pub took_front : (xs ys whole : List ℕ) (a b c : Option LinkEnds) → whole ≡ xs ++ ys → Changed (Took xs) a b → Changed (TookFront ys) b c → Changed (TookFront whole) a c
+pub took_front : (xs ys whole : List ℕ) (a b c : Option LinkEnds) → whole ≡ xs ++ ys → Changed (Took xs) a b → Changed (TookFront ys) b c
+    → Changed (TookFront whole) a c
 took_front xs ys whole None b c is h k = tt
 took_front xs ys whole (Some t) b c is h k =
     let l = subst (λ b. Changed (TookFront ys) b c) h.2 k in
@@ -49,14 +50,16 @@ took_front xs ys whole (Some t) b c is h k =
     )
 
 -- bytes were handed over, and then others
-pub handed_more : (xs ys : List ℕ) (a b c : Option LinkEnds) → Changed (HandedOver xs) a b → Changed (HandedOver ys) b c → Changed (HandedOver (xs ++ ys)) a c
+pub handed_more : (xs ys : List ℕ) (a b c : Option LinkEnds) → Changed (HandedOver xs) a b → Changed (HandedOver ys) b c
+    → Changed (HandedOver (xs ++ ys)) a c
 handed_more xs ys None b c h k = tt
 handed_more xs ys (Some t) b c h k =
     let l = subst (λ b. Changed (HandedOver ys) b c) h.2 k in
     (l.0, (h.1.0 ∙ ap (λ z. xs ++ z) l.1.0 ∙ sym (append_assoc xs ys l.0.left), l.1.1 ∙ h.1.1, l.1.2 ∙ h.1.2), l.2)
 
 -- bytes were handed over, and then a read failed
-pub fails_behind : (xs : List ℕ) (a b c : Option LinkEnds) → Changed (HandedOver xs) a b → Changed (FailedBehind []) b c → Changed (FailedBehind xs) a c
+pub fails_behind : (xs : List ℕ) (a b c : Option LinkEnds) → Changed (HandedOver xs) a b → Changed (FailedBehind []) b c
+    → Changed (FailedBehind xs) a c
 fails_behind xs None b c h k = tt
 fails_behind xs (Some t) b c h k =
     let l = subst (λ b. Changed (FailedBehind []) b c) h.2 k in
@@ -73,7 +76,8 @@ end_comes None b h end = tt
 end_comes (Some t) b h end = (h.0, (h.1, sym h.1.0 ∙ end), h.2)
 
 -- bytes were handed over, and then none, at the end
-pub handed_all : (xs : List ℕ) (a b c : Option LinkEnds) → Changed (HandedOver xs) a b → Changed (HandedAll []) b c → Changed (HandedAll xs) a c
+pub handed_all : (xs : List ℕ) (a b c : Option LinkEnds) → Changed (HandedOver xs) a b → Changed (HandedAll []) b c
+    → Changed (HandedAll xs) a c
 handed_all xs None b c h k = tt
 handed_all xs (Some t) b c h k =
     let l = subst (λ b. Changed (HandedAll []) b c) h.2 k in
@@ -88,5 +92,6 @@ failed_over xs None b h = tt
 failed_over xs (Some t) b h = (h.0, h.1.0, h.2)
 
 -- a link whose ends are told failed, and so it may
-pub may_fail : (xs : List ℕ) (t : LinkEnds) (a b : Option LinkEnds) → a ≡ Some t → Changed (FailedBehind xs) a b → t.promise.unfailing ≡ false
+pub may_fail : (xs : List ℕ) (t : LinkEnds) (a b : Option LinkEnds) → a ≡ Some t → Changed (FailedBehind xs) a b
+    → t.promise.unfailing ≡ false
 may_fail xs t a b told h = (subst (λ (o : Option LinkEnds). Changed (FailedBehind xs) o b) told h).1.1

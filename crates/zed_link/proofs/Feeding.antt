@@ -35,14 +35,17 @@ records_both [] fs a b = b
 records_both (e ∷ es) fs a b = (a.0, records_both es fs a.1 b)
 
 -- one piece and then another
-pub feeds_more : (a b : List ℕ) (es fs : List Edit) (p q r : Progress) → Feeds a [] es p q → Feeds b [] fs q r → Feeds (a ++ b) [] (es ++ fs) p r
+pub feeds_more : (a b : List ℕ) (es fs : List Edit) (p q r : Progress) → Feeds a [] es p q → Feeds b [] fs q r
+    → Feeds (a ++ b) [] (es ++ fs) p r
 feeds_more a b es fs p q r one two = record {
   edits = es ++ fs;
   gained = refl;
   good = records_both es fs (subst AreRecords (sym one.gained) one.good) (subst AreRecords (sym two.gained) two.good);
   reads = λ bytes found h.
-      let first : Reads (bytes ++ a) (found ++ es) q = subst (λ z. Reads (bytes ++ a) (found ++ z) q) (sym one.gained) (one.reads bytes found h) in
-      let both : Reads ((bytes ++ a) ++ b) ((found ++ es) ++ fs) r = subst (λ z. Reads ((bytes ++ a) ++ b) ((found ++ es) ++ z) r) (sym two.gained) (two.reads (bytes ++ a) (found ++ es) first) in
+      let first : Reads (bytes ++ a) (found ++ es) q =
+          subst (λ z. Reads (bytes ++ a) (found ++ z) q) (sym one.gained) (one.reads bytes found h) in
+      let both : Reads ((bytes ++ a) ++ b) ((found ++ es) ++ fs) r =
+          subst (λ z. Reads ((bytes ++ a) ++ b) ((found ++ es) ++ z) r) (sym two.gained) (two.reads (bytes ++ a) (found ++ es) first) in
       subst (λ z. Reads z (found ++ (es ++ fs)) r) (append_assoc bytes a b) (subst (λ z. Reads ((bytes ++ a) ++ b) z r) (append_assoc found es fs) both);
 }
 
@@ -56,7 +59,9 @@ feeds_none p = record {
 }
 
 -- an edit that is there is delivered, and nothing changes
-pub known_delivered : (d : Replica) (e : Edit) → d.is_stale ≡ false → Fits e → edit_with e.stamp d.edits ≡ Some e → with_edit e d.edits ≡ d.edits → AllDelivered d (e ∷ []) d.edits
+pub known_delivered : (d : Replica) (e : Edit) → d.is_stale ≡ false → Fits e → edit_with e.stamp d.edits ≡ Some e
+    → with_edit e d.edits ≡ d.edits
+    → AllDelivered d (e ∷ []) d.edits
 known_delivered d e sound fits there same =
     let told : Delivered = record { state = Known; woken = 0; visits = 0 } in
     let answers : Answers d e (Ok told) = rw (sound, fits, there) (inl (refl, (refl, refl))) in
@@ -105,7 +110,8 @@ pub record Taking (d : Replica) (piece : List ℕ) (p q : Progress) (rest : List
   pub sound : m.is_stale ≡ d.is_stale
   pub falls : NoCountFalls d.counts m.counts
 
-pub nothing_taken : (d : Replica) (piece : List ℕ) (p : Progress) (counts : Pulled) → p.fault ≡ None → counts ≡ tally [] → Taking d piece p p piece d counts
+pub nothing_taken : (d : Replica) (piece : List ℕ) (p : Progress) (counts : Pulled) → p.fault ≡ None → counts ≡ tally []
+    → Taking d piece p p piece d counts
 nothing_taken d piece p counts calm none = record {
   done = [];
   es = [];
@@ -122,7 +128,8 @@ nothing_taken d piece p counts calm none = record {
 
 -- the next records were taken
 pub more_taken : (d : Replica) (piece : List ℕ) (p q r : Progress) (rest front after : List ℕ) (m l : Replica) (fs : List Edit) (counts got sum : Pulled)
-    → Taking d piece p q rest m counts → rest ≡ front ++ after → Feeds front [] fs q r → r.fault ≡ None → r.asked ≡ q.asked → AllDelivered m fs l.edits → got ≡ tally (states m.edits fs)
+    → Taking d piece p q rest m counts → rest ≡ front ++ after → Feeds front [] fs q r → r.fault ≡ None → r.asked ≡ q.asked
+    → AllDelivered m fs l.edits → got ≡ tally (states m.edits fs)
     → sum ≡ plus counts got → l.world ≡ m.world → l.is_stale ≡ m.is_stale → NoCountFalls m.counts l.counts → Taking d piece p r after l sum
 more_taken d piece p q r rest front after m l fs counts got sum t whole feeds calm asked all told sums world sound falls = record {
   done = t.done ++ front;
@@ -140,14 +147,18 @@ more_taken d piece p q r rest front after m l fs counts got sum t whole feeds ca
 
 -- a known record was passed over
 pub one_passed : (d : Replica) (piece : List ℕ) (p q : Progress) (rest front after : List ℕ) (m : Replica) (e : Edit) (counts sum : Pulled)
-    → Taking d piece p q rest m counts → IsPassed front e rest after q m → sum ≡ plus counts (tally (Known ∷ [])) → Taking d piece p q after m sum
+    → Taking d piece p q rest m counts → IsPassed front e rest after q m → sum ≡ plus counts (tally (Known ∷ []))
+    → Taking d piece p q after m sum
 one_passed d piece p q rest front after m e counts sum t k sums =
     more_taken d piece p q q rest front after m m (e ∷ []) counts (tally (Known ∷ [])) sum t k.whole k.feeds t.calm refl k.all (ap (λ s. tally (s ∷ [])) (sym k.known)) sums refl refl (λ t. omega arith)
 
 -- there is room to count what comes next
 pub room : (d : Replica) (piece : List ℕ) (p q r : Progress) (rest front after : List ℕ) (m : Replica) (fs : List Edit) (counts got : Pulled)
-    → Taking d piece p q rest m counts → HasRoomFor piece p → rest ≡ front ++ after → Feeds front [] fs q r → got ≡ tally (states m.edits fs)
-    → (counts.taken + got.taken < 9223372036854775808) × (counts.held + got.held < 9223372036854775808) × (counts.known + got.known < 9223372036854775808)
+    → Taking d piece p q rest m counts → HasRoomFor piece p → rest ≡ front ++ after → Feeds front [] fs q r
+    → got ≡ tally (states m.edits fs)
+    → (counts.taken + got.taken < 9223372036854775808)
+      × (counts.held + got.held < 9223372036854775808)
+      × (counts.known + got.known < 9223372036854775808)
 room d piece p q r rest front after m fs counts got t (handed, found, reads, small) whole feeds told =
     let both = feeds_more t.done front t.es fs p q r t.feeds feeds in
     let few : length (found ++ (t.es ++ fs)) ≤ length (handed ++ (t.done ++ front)) = few_edits (handed ++ (t.done ++ front)) (found ++ (t.es ++ fs)) r (subst (λ z. Reads (handed ++ (t.done ++ front)) (found ++ z) r) (sym both.gained) (both.reads handed found reads)) in
@@ -177,7 +188,8 @@ room_one d piece p q rest front after m e counts t has k =
     (omega arith, omega arith, omega arith)
 
 -- all was taken
-pub all_taken : (d : Replica) (piece : List ℕ) (p q : Progress) (rest : List ℕ) (m : Replica) (counts : Pulled) → Taking d piece p q rest m counts → rest ≡ []
+pub all_taken : (d : Replica) (piece : List ℕ) (p q : Progress) (rest : List ℕ) (m : Replica) (counts : Pulled)
+    → Taking d piece p q rest m counts → rest ≡ []
     → (es : List Edit) × Feeds piece [] es p q × TakesPiece d es q (Ok counts) m.edits
 all_taken d piece p q rest m counts t none =
     let whole : piece ≡ t.done = t.whole ∙ ap (λ (z : List ℕ). t.done ++ z) none ∙ append-nil t.done in
@@ -185,26 +197,33 @@ all_taken d piece p q rest m counts t none =
 
 -- what stops for memory stops so before more edits
 stops_before : (d : Replica) (es more left : List Edit) → StopsForMemory d es left → StopsForMemory d (es ++ more) left
-stops_before d es more left (front, e, rest, is, all, may) = (front, e, rest ++ more, ap (λ z. z ++ more) is ∙ append_assoc front (e ∷ rest) more, all, may)
+stops_before d es more left (front, e, rest, is, all, may) =
+    (front, e, rest ++ more, ap (λ z. z ++ more) is ∙ append_assoc front (e ∷ rest) more, all, may)
 
 -- and what is refused is refused before more edits
-stopped_before : (d : Replica) (es more : List Edit) (e : LinkError) (left : List Edit) → IsStopped d es e left → IsStopped d (es ++ more) e left
+stopped_before : (d : Replica) (es more : List Edit) (e : LinkError) (left : List Edit) → IsStopped d es e left
+    → IsStopped d (es ++ more) e left
 stopped_before d es more e left (inl memory) = inl (memory.0, stops_before d es more left memory.1)
 stopped_before d es more e left (inr clash) = inr (clash.0, clash.1, refused_before d es more (document.Clash clash.0) left clash.2)
 
-stopped_behind : (d m : Replica) (es fs : List Edit) (e : LinkError) (left : List Edit) → m.world ≡ d.world → m.is_stale ≡ d.is_stale → AllDelivered d es m.edits → IsStopped m fs e left → IsStopped d (es ++ fs) e left
+stopped_behind : (d m : Replica) (es fs : List Edit) (e : LinkError) (left : List Edit) → m.world ≡ d.world → m.is_stale ≡ d.is_stale
+    → AllDelivered d es m.edits → IsStopped m fs e left
+    → IsStopped d (es ++ fs) e left
 stopped_behind d m es fs e left w s all (inl memory) = inl (memory.0, stops_more d m es fs left w s all memory.1)
-stopped_behind d m es fs e left w s all (inr clash) = inr (clash.0, clash.1, delivered_more d m es fs (Err (document.Clash clash.0)) left w s all clash.2)
+stopped_behind d m es fs e left w s all (inr clash) =
+    inr (clash.0, clash.1, delivered_more d m es fs (Err (document.Clash clash.0)) left w s all clash.2)
 
 -- a record was refused, and what is left of the piece was read
 pub record_refused : (d : Replica) (piece : List ℕ) (p q r u : Progress) (rest front after : List ℕ) (m : Replica) (fs more left : List Edit) (counts : Pulled) (e : LinkError)
     → Taking d piece p q rest m counts → rest ≡ front ++ after → Feeds front [] fs q r → TakesPiece m fs r (Err e) left
-    → Feeds after [] more r u → IfSome r.fault (λ f. (more ≡ []) × (u ≡ r)) → (es : List Edit) × Feeds piece [] es p u × TakesPiece d es u (Err e) left
+    → Feeds after [] more r u → IfSome r.fault (λ f. (more ≡ []) × (u ≡ r))
+    → (es : List Edit) × Feeds piece [] es p u × TakesPiece d es u (Err e) left
 record_refused d piece p q r u rest front after m fs more left counts e t whole feeds takes drained again =
     let es : List Edit = (t.es ++ fs) ++ more in
     let one = feeds_more t.done front t.es fs p q r t.feeds feeds in
     let all = feeds_more (t.done ++ front) after (t.es ++ fs) more p r u one drained in
-    let is : piece ≡ (t.done ++ front) ++ after = t.whole ∙ ap (λ (z : List ℕ). t.done ++ z) whole ∙ sym (append_assoc t.done front after) in (
+    let is : piece ≡ (t.done ++ front) ++ after =
+        t.whole ∙ ap (λ (z : List ℕ). t.done ++ z) whole ∙ sym (append_assoc t.done front after) in (
       es,
       subst (λ z. Feeds z [] es p u) (sym is) all,
       elim takes [

@@ -23,7 +23,8 @@ use Rattle.zed_link.proofs.Paces.{is_long}
 
 -- ---- the link
 
-bytes_over : (r : Answer) (n : ℕ) (bytes : List ℕ) (old new : Option LinkEnds) → LeavesLink r n bytes old new → Changed (HandedOver bytes) old new
+bytes_over : (r : Answer) (n : ℕ) (bytes : List ℕ) (old new : Option LinkEnds) → LeavesLink r n bytes old new
+    → Changed (HandedOver bytes) old new
 bytes_over (Ok pulled) n bytes old new l = handed_over bytes old new l.0
 bytes_over (Err CutShort) n bytes old new l = handed_over bytes old new l.0
 bytes_over (Err LinkFault) n bytes old new l = failed_over bytes old new l.0
@@ -31,7 +32,8 @@ bytes_over (Err TooManyTurns) n bytes old new l = l.0
 bytes_over (Err e) n bytes old new l = l.0
 
 -- what was handed over, and what is left then
-left_over : (bytes : List ℕ) (old new : Option LinkEnds) (t : LinkEnds) → old ≡ Some t → Changed (HandedOver bytes) old new → (rest : List ℕ) × (bytes ++ rest ≡ t.left)
+left_over : (bytes : List ℕ) (old new : Option LinkEnds) (t : LinkEnds) → old ≡ Some t → Changed (HandedOver bytes) old new
+    → (rest : List ℕ) × (bytes ++ rest ≡ t.left)
 left_over bytes old new t told over =
     let h = subst (λ (o : Option LinkEnds). Changed (HandedOver bytes) o new) told over in
     (h.0.left, sym h.1.0)
@@ -68,14 +70,18 @@ calm_at_end : (asked : Option ℕ) (n version : ℕ) → (at_end asked n version
 calm_at_end asked n version h = cc
 
 -- whoever read a whole file may end there
-whole_end : ReadsOneWay → TextsAreRead → (n : ℕ) (es found : List Edit) (bytes : List ℕ) (p : Progress) → n < 2 ^ 64 → AreRecords es → IsTextOf n es bytes → is_other p.asked n ≡ false → p.fault ≡ None → Reads bytes found p → ending p ≡ None
+whole_end : ReadsOneWay → TextsAreRead → (n : ℕ) (es found : List Edit) (bytes : List ℕ) (p : Progress) → n < 2 ^ 64 → AreRecords es
+    → IsTextOf n es bytes → is_other p.asked n ≡ false → p.fault ≡ None → Reads bytes found p
+    → ending p ≡ None
 whole_end one texts n es found bytes p lt good text other calm reads =
     let whole = texts p.asked n es bytes lt other good text in
     let same = one bytes found es p (at_end p.asked n text.version) refl (λ bad. let both : None ≡ Some file.Memory = sym calm ∙ bad in cc) (calm_at_end p.asked n text.version) reads whole in
     ap ending same.1
 
 -- two files of one world with one text have the same edits
-same_edits : ReadsOneWay → TextsAreRead → (n : ℕ) (es fs : List Edit) (bytes : List ℕ) → n < 2 ^ 64 → AreRecords es → AreRecords fs → IsTextOf n es bytes → IsTextOf n fs bytes → es ≡ fs
+same_edits : ReadsOneWay → TextsAreRead → (n : ℕ) (es fs : List Edit) (bytes : List ℕ) → n < 2 ^ 64 → AreRecords es → AreRecords fs
+    → IsTextOf n es bytes → IsTextOf n fs bytes
+    → es ≡ fs
 same_edits one texts n es fs bytes lt good fine a b =
     let first = texts None n es bytes lt refl good a in
     let other = texts None n fs bytes lt refl fine b in
@@ -108,7 +114,8 @@ record Known (t : LinkEnds) (d : Replica) (es found : List Edit) (bytes : List �
   whole : (pulled : Pulled) → r ≡ Ok pulled → bytes ≡ t.left
   end : r ≡ refused CutShort → p.fault ≡ None → ending p ≡ None
 
-comes_to : (t : LinkEnds) (d : Replica) (es found : List Edit) (bytes : List ℕ) (n reads : ℕ) (p : Progress) (r : Answer) (left : List Edit) (old new : Option LinkEnds) → old ≡ Some t → Known t d es found bytes n p r
+comes_to : (t : LinkEnds) (d : Replica) (es found : List Edit) (bytes : List ℕ) (n reads : ℕ) (p : Progress) (r : Answer) (left : List Edit) (old new : Option LinkEnds)
+    → old ≡ Some t → Known t d es found bytes n p r
     → reads ≡ reads_made r n → LeavesLink r reads bytes old new → LeavesDocument d bytes found p r left → PullsFile t d es r left
 comes_to t d es found bytes n reads p (Ok pulled) left old new told k made link (good, text, all, counted) =
     let same : found ≡ es = k.all pulled refl good text in
@@ -125,16 +132,22 @@ comes_to t d es found bytes n reads p (Err TooManyTurns) left old new told k mad
   front_of_front d found es left k.first (all_is_front d found left of.1),
   is_long (least_read (Some t)) (length t.left) (subst (λ (n : ℕ). n * least_read (Some t) < length t.left + least_read (Some t)) (sym made ∙ link.1) k.many),
 )
-comes_to t d es found bytes n reads p (Err Magic) left old new told k made link of = absurd (no_refusal p file.Magic (λ h. cc) (λ h. cc) k.calm of.0)
-comes_to t d es found bytes n reads p (Err NewVersion) left old new told k made link of = absurd (no_refusal p file.NewVersion (λ h. cc) (λ h. cc) k.calm of.0)
-comes_to t d es found bytes n reads p (Err OtherWorld) left old new told k made link of = absurd (no_refusal p file.OtherWorld (λ h. cc) (λ h. cc) k.calm of.0)
-comes_to t d es found bytes n reads p (Err RecordLength) left old new told k made link of = absurd (no_refusal p file.RecordLength (λ h. cc) (λ h. cc) k.calm of.0)
-comes_to t d es found bytes n reads p (Err (BadEdit c)) left old new told k made link of = absurd (no_refusal p (file.BadEdit c) (λ h. cc) (λ h. cc) k.calm of.0)
+comes_to t d es found bytes n reads p (Err Magic) left old new told k made link of =
+    absurd (no_refusal p file.Magic (λ h. cc) (λ h. cc) k.calm of.0)
+comes_to t d es found bytes n reads p (Err NewVersion) left old new told k made link of =
+    absurd (no_refusal p file.NewVersion (λ h. cc) (λ h. cc) k.calm of.0)
+comes_to t d es found bytes n reads p (Err OtherWorld) left old new told k made link of =
+    absurd (no_refusal p file.OtherWorld (λ h. cc) (λ h. cc) k.calm of.0)
+comes_to t d es found bytes n reads p (Err RecordLength) left old new told k made link of =
+    absurd (no_refusal p file.RecordLength (λ h. cc) (λ h. cc) k.calm of.0)
+comes_to t d es found bytes n reads p (Err (BadEdit c)) left old new told k made link of =
+    absurd (no_refusal p (file.BadEdit c) (λ h. cc) (λ h. cc) k.calm of.0)
 comes_to t d es found bytes n reads p (Err CutShort) left old new told k made link of = absurd (no_cut p k.calm (k.end refl) of.0)
 comes_to t d es found bytes n reads p (Err Stale) left old new told k made link of = absurd of
 
 -- nothing is left where all went well
-leaves_nothing : (t : LinkEnds) (d : Replica) (es found : List Edit) (bytes : List ℕ) (n reads : ℕ) (p : Progress) (r : Answer) (left : List Edit) (old new : Option LinkEnds) → Known t d es found bytes n p r
+leaves_nothing : (t : LinkEnds) (d : Replica) (es found : List Edit) (bytes : List ℕ) (n reads : ℕ) (p : Progress) (r : Answer) (left : List Edit) (old new : Option LinkEnds)
+    → Known t d es found bytes n p r
     → LeavesLink r reads bytes old new → LeavesDocument d bytes found p r left → OnOk r (Changed (HandedAll t.left) old new)
 leaves_nothing t d es found bytes n reads p (Ok pulled) left old new k link (good, text, all, counted) =
     subst (λ (x : List ℕ). Changed (HandedAll x) old new) (k.whole pulled refl) link.0

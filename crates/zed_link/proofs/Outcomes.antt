@@ -51,7 +51,8 @@ pub record Going (d : Replica) (old now : Option LinkEnds) (a b n : ℕ) (p : Pr
 
 -- it begins with nothing
 pub start : (d : Replica) (old : Option LinkEnds) (a : ℕ) (p : Progress) (w : Option ℕ) (counts : Pulled) → w ≡ Some d.world
-    → p ≡ record { asked = w; world = None; version = 0; rest = []; fault = None } → Reads [] [] p → counts ≡ tally [] → Going d old old a a 0 p d counts
+    → p ≡ record { asked = w; world = None; version = 0; rest = []; fault = None } → Reads [] [] p → counts ≡ tally []
+    → Going d old old a a 0 p d counts
 start d old a p w counts asks is reads none = record {
   handed = [];
   found = [];
@@ -70,8 +71,11 @@ start d old a p w counts asks is reads none = record {
 
 -- the piece of one read was taken
 pub goes_on : (d : Replica) (old mid now : Option LinkEnds) (a b c n : ℕ) (p q : Progress) (m l : Replica) (counts got sum : Pulled) (piece read : List ℕ) (es : List Edit)
-    → Going d old mid a b n p m counts → 1 ≤ length piece → length piece ≤ 4096 → KeepsPace (length piece) 4096 mid → piece ≡ read → Changed (HandedOver read) mid now → Counted 1 b c
-    → Feeds piece [] es p q → q.asked ≡ p.asked → TakesPiece m es q (Ok got) l.edits → l.world ≡ m.world → l.is_stale ≡ m.is_stale → sum ≡ plus counts got → Going d old now a c (n + 1) q l sum
+    → Going d old mid a b n p m counts → 1 ≤ length piece → length piece ≤ 4096 → KeepsPace (length piece) 4096 mid → piece ≡ read
+    → Changed (HandedOver read) mid now → Counted 1 b c
+    → Feeds piece [] es p q → q.asked ≡ p.asked → TakesPiece m es q (Ok got) l.edits → l.world ≡ m.world → l.is_stale ≡ m.is_stale
+    → sum ≡ plus counts got
+    → Going d old now a c (n + 1) q l sum
 goes_on d old mid now a b c n p q m l counts got sum piece read es going some few keeps is handed more feeds asked takes world sound sums =
     let over = subst (λ z. Changed (HandedOver z) mid now) (sym is) handed in
     record {
@@ -93,7 +97,9 @@ goes_on d old mid now a b c n p q m l counts got sum piece read es going some fe
 -- the counts have room for those of a piece
 pub room : (d : Replica) (old mid : Option LinkEnds) (a b n : ℕ) (p q : Progress) (m : Replica) (counts got : Pulled) (piece : List ℕ) (es : List Edit)
     → Going d old mid a b n p m counts → n < most_reads → length piece ≤ 4096 → Feeds piece [] es p q → got ≡ tally (states m.edits es)
-    → (counts.taken + got.taken < 18446744073709551616) × (counts.held + got.held < 18446744073709551616) × (counts.known + got.known < 18446744073709551616)
+    → (counts.taken + got.taken < 18446744073709551616)
+    × (counts.held + got.held < 18446744073709551616)
+    × (counts.known + got.known < 18446744073709551616)
 room d old mid a b n p q m counts got piece es going within few feeds is =
     let before = tally_below d.edits going.found counts going.counted in
     let more = tally_below m.edits es got is in
@@ -107,7 +113,8 @@ room d old mid a b n p q m counts got piece es going within few feeds is =
     (omega arith, omega arith, omega arith)
 
 -- a read failed
-pub read_failed : (d : Replica) (old mid now : Option LinkEnds) (a b c n : ℕ) (p : Progress) (m : Replica) (counts : Pulled) → n < most_reads
+pub read_failed : (d : Replica) (old mid now : Option LinkEnds) (a b c n : ℕ) (p : Progress) (m : Replica) (counts : Pulled)
+    → n < most_reads
     → Going d old mid a b n p m counts → Changed (FailedBehind []) mid now → Counted 1 b c → Pull d old now a c (Err LinkFault) m.edits
 read_failed d old mid now a b c n p m counts within going none more = record {
   handed = going.handed;
@@ -150,7 +157,8 @@ ends_well d old mid now a b c n p m counts within going end more whole =
     }
 
 -- the end came where a file may not end
-pub ends_cut : (d : Replica) (old mid now : Option LinkEnds) (a b c n : ℕ) (p : Progress) (m : Replica) (counts : Pulled) (f : EditFileError) → n < most_reads
+pub ends_cut : (d : Replica) (old mid now : Option LinkEnds) (a b c n : ℕ) (p : Progress) (m : Replica) (counts : Pulled) (f : EditFileError)
+    → n < most_reads
     → Going d old mid a b n p m counts → Changed (HandedAll []) mid now → Counted 1 b c → Err f ≡ verdict_of (ending p)
     → Pull d old now a c (Err (file_refusal f)) m.edits
 ends_cut d old mid now a b c n p m counts f within going end more is =
@@ -173,8 +181,10 @@ ends_cut d old mid now a b c n p m counts f within going end more is =
     })
 
 -- a piece was refused
-pub piece_refused : CutIsToldAtTheEnd → (d : Replica) (old mid now : Option LinkEnds) (a b c n : ℕ) (p q : Progress) (m : Replica) (counts : Pulled) (piece read : List ℕ) (es : List Edit) (e : LinkError) (left : List Edit)
-    → n < most_reads → Going d old mid a b n p m counts → 1 ≤ length piece → length piece ≤ 4096 → piece ≡ read → Changed (HandedOver read) mid now → Counted 1 b c → Feeds piece [] es p q → q.asked ≡ p.asked
+pub piece_refused : CutIsToldAtTheEnd
+    → (d : Replica) (old mid now : Option LinkEnds) (a b c n : ℕ) (p q : Progress) (m : Replica) (counts : Pulled) (piece read : List ℕ) (es : List Edit) (e : LinkError) (left : List Edit)
+    → n < most_reads → Going d old mid a b n p m counts → 1 ≤ length piece → length piece ≤ 4096 → piece ≡ read
+    → Changed (HandedOver read) mid now → Counted 1 b c → Feeds piece [] es p q → q.asked ≡ p.asked
     → TakesPiece m es q (Err e) left → Pull d old now a c (Err e) left
 piece_refused late d old mid now a b c n p q m counts piece read es e left within going some few is handed more feeds asked takes =
     elim takes [
@@ -218,7 +228,8 @@ piece_refused late d old mid now a b c n p q m counts piece read es e left withi
       document = document;
     }
 
-    by_fault : (f : EditFileError) → q.fault ≡ Some f → AllDelivered d (going.found ++ es) left → Pull d old now a c (Err (file_refusal f)) left
+    by_fault : (f : EditFileError) → q.fault ≡ Some f → AllDelivered d (going.found ++ es) left
+        → Pull d old now a c (Err (file_refusal f)) left
     by_fault file.Memory is all = pull Memory refl (leaves, up) (inr (fault_ends q file.Memory is, all))
     by_fault file.Magic is all = pull Magic refl (leaves, up) (fault_ends q file.Magic is, all)
     by_fault file.NewVersion is all = pull NewVersion refl (leaves, up) (fault_ends q file.NewVersion is, all)
@@ -228,7 +239,8 @@ piece_refused late d old mid now a b c n p q m counts piece read es e left withi
     by_fault file.CutShort is all = absurd (late (going.handed ++ piece) (going.found ++ es) q spelled is)
 
 -- what was taken of a piece, from a list that was empty
-pub took : (d : Replica) (piece : List ℕ) (before es : List Edit) (p q : Progress) (r : Answer) (left : List Edit) → before ≡ [] → Feeds piece before es p q → TakesPiece d es q r left
+pub took : (d : Replica) (piece : List ℕ) (before es : List Edit) (p q : Progress) (r : Answer) (left : List Edit) → before ≡ []
+    → Feeds piece before es p q → TakesPiece d es q r left
     → (es : List Edit) × Feeds piece [] es p q × TakesPiece d es q r left
 took d piece before es p q r left none feeds takes = (es, subst (λ b. Feeds piece b es p q) none feeds, takes)
 

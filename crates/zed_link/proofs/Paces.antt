@@ -24,12 +24,14 @@ pub from_no_reads : (link : Option LinkEnds) → FromReads (least_read link) 0 [
 from_no_reads link = let some = some_read link in (omega arith, omega arith)
 
 -- what the link handed over is of what was left
-handed_length : (t : LinkEnds) (bytes : List ℕ) (now : Option LinkEnds) → (h : Changed (HandedOver bytes) (Some t) now) → length t.left ≡ length bytes + length h.0.left
+handed_length : (t : LinkEnds) (bytes : List ℕ) (now : Option LinkEnds) → (h : Changed (HandedOver bytes) (Some t) now)
+    → length t.left ≡ length bytes + length h.0.left
 handed_length t bytes now h = ap length h.1.0 ∙ length-append bytes h.0.left
 
 -- one more read of some bytes
 pub more_reads : (old mid now : Option LinkEnds) (n : ℕ) (xs ys : List ℕ) → AtPace old n xs → FromReads (least_read old) n xs
-    → Changed (HandedOver xs) old mid → Changed (HandedOver ys) mid now → 1 ≤ length ys → length ys ≤ 4096 → FromReads (least_read old) (n + 1) (xs ++ ys)
+    → Changed (HandedOver xs) old mid → Changed (HandedOver ys) mid now → 1 ≤ length ys → length ys ≤ 4096
+    → FromReads (least_read old) (n + 1) (xs ++ ys)
 more_reads None mid now n xs ys pace size before then some few =
     let sum = length-append xs ys in let high = size.1 in (omega arith, omega arith)
 more_reads (Some t) mid now n xs ys pace size before then some few =
@@ -53,7 +55,8 @@ at_most p = max-le (omega arith) (min-le_left 4096 p)
 
 -- one more read at the pace
 pub at_pace_more : (old mid now : Option LinkEnds) (n : ℕ) (xs ys : List ℕ) → AtPace old n xs
-    → Changed (HandedOver xs) old mid → Changed (HandedOver ys) mid now → 1 ≤ length ys → KeepsPace (length ys) 4096 mid → AtPace old (n + 1) (xs ++ ys)
+    → Changed (HandedOver xs) old mid → Changed (HandedOver ys) mid now → 1 ≤ length ys → KeepsPace (length ys) 4096 mid
+    → AtPace old (n + 1) (xs ++ ys)
 at_pace_more None mid now n xs ys pace before then some keeps = let sum = length-append xs ys in omega arith
 at_pace_more (Some t) mid now n xs ys pace before then some keeps =
     let sum = length-append xs ys in
@@ -76,8 +79,10 @@ at_pace_more (Some t) mid now n xs ys pace before then some keeps =
     ]
 
 -- the piece is what the read handed over, where there was room for 4,096 bytes
-pub piece_keeps_pace : (count long room : ℕ) (link : Option LinkEnds) → long ≡ count → room ≡ 4096 → KeepsPace count room link → KeepsPace long 4096 link
-piece_keeps_pace count long room link same full keeps = subst (λ (n : ℕ). KeepsPace n 4096 link) (sym same) (subst (λ (r : ℕ). KeepsPace count r link) full keeps)
+pub piece_keeps_pace : (count long room : ℕ) (link : Option LinkEnds) → long ≡ count → room ≡ 4096 → KeepsPace count room link
+    → KeepsPace long 4096 link
+piece_keeps_pace count long room link same full keeps =
+    subst (λ (n : ℕ). KeepsPace n 4096 link) (sym same) (subst (λ (r : ℕ). KeepsPace count r link) full keeps)
 
 -- as many reads as a pull makes
 pub is_long : (q left : ℕ) → most_reads * q < left + q → (most_reads - 1) * q < left

@@ -43,7 +43,8 @@ few_edits bytes es p (inr records) =
     rw records.whole (omega arith)
 
 -- the world of a reader that asks for one is that one
-pub asked_world : (bytes : List ℕ) (es : List Edit) (p : Progress) (w n : ℕ) → Reads bytes es p → p.asked ≡ Some w → p.world ≡ Some n → n ≡ w
+pub asked_world : (bytes : List ℕ) (es : List Edit) (p : Progress) (w n : ℕ) → Reads bytes es p → p.asked ≡ Some w → p.world ≡ Some n
+    → n ≡ w
 asked_world bytes es p w n (inl head) asks is = absurd (let bad : None ≡ Some n = sym head.world ∙ is in cc)
 asked_world bytes es p w n (inr records) asks is =
     let one : records.number ≡ n = (let both : Some records.number ≡ Some n = sym records.world ∙ is in cc) in
@@ -54,10 +55,12 @@ asked_world bytes es p w n (inr records) asks is =
     same a b h = search rules
 
 -- a reader without a fault that may not end here says that the file is cut
-pub cut_short : (p : Progress) (f : EditFileError) → p.fault ≡ None → Err f ≡ verdict_of (ending p) → (f ≡ CutShort) × (ending p ≡ Some CutShort)
+pub cut_short : (p : Progress) (f : EditFileError) → p.fault ≡ None → Err f ≡ verdict_of (ending p)
+    → (f ≡ CutShort) × (ending p ≡ Some CutShort)
 cut_short p f calm is = go p.world p.rest (subst (λ o. Err f ≡ verdict_of (ending_by o p.world p.rest)) calm is)
   where
-    go : (w : Option ℕ) (rest : List ℕ) → Err f ≡ verdict_of (ending_by None w rest) → (f ≡ CutShort) × (ending_by p.fault w rest ≡ Some CutShort)
+    go : (w : Option ℕ) (rest : List ℕ) → Err f ≡ verdict_of (ending_by None w rest)
+        → (f ≡ CutShort) × (ending_by p.fault w rest ≡ Some CutShort)
     go None rest h = (let it : Err f ≡ Err CutShort = h in cc, rw calm refl)
     go (Some n) [] h = absurd (let it : Err f ≡ Ok tt = h in cc)
     go (Some n) (b ∷ rest) h = (let it : Err f ≡ Err CutShort = h in cc, rw calm refl)

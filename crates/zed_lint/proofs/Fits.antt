@@ -18,7 +18,8 @@ unfolding board_text
 board_length b = length-append (little_bytes 2 (length (body_text b))) (body_text b)
 
 -- one more board in a count
-pub boards_more : (bs : List BoardData) (i : ℕ) (b : BoardData) → i < length bs → b ≡ get_or bs i b → length (flat_map board_text (take (suc i) bs)) ≡ length (flat_map board_text (take i bs)) + (2 + length (body_text b))
+pub boards_more : (bs : List BoardData) (i : ℕ) (b : BoardData) → i < length bs → b ≡ get_or bs i b
+    → length (flat_map board_text (take (suc i) bs)) ≡ length (flat_map board_text (take i bs)) + (2 + length (body_text b))
 boards_more [] i b lt e = absurd (omega arith)
 boards_more (x ∷ xs) zero b lt e =
     let one = board_length x in

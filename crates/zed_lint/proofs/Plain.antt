@@ -84,7 +84,9 @@ none_over e (x ∷ xs) over known = go (eqb x.element e) refl (none_over e xs ov
 low_of : (all before : List Tile) (t : Tile) → AllByRecursion IsKnown before → unknown all before t ≡ None → t.element ≤ 53
 low_of all before t known is = go (nat_lt 53 t.element) refl is
   where
-    go : (p : Bool) → nat_lt 53 t.element ≡ p → cond (p && not (has_element before t.element)) (Some (UnknownElement (count_of t.element all))) None ≡ None → t.element ≤ 53
+    go : (p : Bool) → nat_lt 53 t.element ≡ p
+        → cond (p && not (has_element before t.element)) (Some (UnknownElement (count_of t.element all))) None ≡ None
+        → t.element ≤ 53
     go false e is = ltb-false 53 t.element e
     go true e is =
         let new : has_element before t.element ≡ false = (none_over t.element before (ltb-true 53 t.element e) known) in
@@ -98,18 +100,24 @@ all_push : (xs : List Tile) (t : Tile) → AllByRecursion IsKnown xs → IsKnown
 all_push [] t known low = (low, tt)
 all_push (x ∷ xs) t known low = (known.0, all_push xs t known.1 low)
 
-tile_low : (n : ℕ) (b : BoardData) (i : ℕ) (before : List Tile) (t : Tile) → take i b.tiles ≡ before → AllByRecursion IsKnown before → tile_findings n b i t ≡ [] → t.element ≤ 53
+tile_low : (n : ℕ) (b : BoardData) (i : ℕ) (before : List Tile) (t : Tile) → take i b.tiles ≡ before → AllByRecursion IsKnown before
+    → tile_findings n b i t ≡ []
+    → t.element ≤ 53
 unfolding tile_findings
 tile_low n b i before t e known is =
     let nothing = front_none (noted (tile_spot n i t) (unknown b.tiles (take i b.tiles) t)) _ is in
     let no : unknown b.tiles (take i b.tiles) t ≡ None = none_noted (tile_spot n i t) _ nothing in
     low_of b.tiles before t known (rw e at no)
 
-known_from : (n : ℕ) (b : BoardData) (before ts : List Tile) → b.tiles ≡ before ++ ts → AllByRecursion IsKnown before → each_from (tile_findings n b) (length before) ts ≡ [] → AllByRecursion IsKnown ts
+known_from : (n : ℕ) (b : BoardData) (before ts : List Tile) → b.tiles ≡ before ++ ts → AllByRecursion IsKnown before
+    → each_from (tile_findings n b) (length before) ts ≡ []
+    → AllByRecursion IsKnown ts
 known_from n b before [] e known is = tt
 known_from n b before (t ∷ ts) e known is =
-    let here : tile_findings n b (length before) t ≡ [] = front_none (tile_findings n b (length before) t) (each_from (tile_findings n b) (length before + 1) ts) is in
-    let on : each_from (tile_findings n b) (length before + 1) ts ≡ [] = back_none (tile_findings n b (length before) t) (each_from (tile_findings n b) (length before + 1) ts) is in
+    let here : tile_findings n b (length before) t ≡ [] =
+    front_none (tile_findings n b (length before) t) (each_from (tile_findings n b) (length before + 1) ts) is in
+    let on : each_from (tile_findings n b) (length before + 1) ts ≡ [] =
+    back_none (tile_findings n b (length before) t) (each_from (tile_findings n b) (length before + 1) ts) is in
     let low = tile_low n b (length before) before t (ap (take (length before)) e ∙ front_of before (t ∷ ts)) known here in
     let longer : length (before ++ t ∷ []) ≡ length before + 1 = omega (arith, length-append before (t ∷ [])) in
     (low, known_from n b (before ++ t ∷ []) ts (e ∙ sym (append_assoc before (t ∷ []) ts)) (all_push before t known low) (rw longer on))

@@ -25,7 +25,8 @@ counted : (a : List ℕ) (n : ℕ) → plain a ≡ true → plain (a ++ number n
 counted a n is = both a (number n) is (number_is n)
 
 -- and a place and an element behind them
-placed : (a : List ℕ) (p : Place) (tile : Option TheTile) → plain a ≡ true → plain (a ++ codes " " ++ place p.x p.y ++ codes "  " ++ element_of tile) ≡ true
+placed : (a : List ℕ) (p : Place) (tile : Option TheTile) → plain a ≡ true
+    → plain (a ++ codes " " ++ place p.x p.y ++ codes "  " ++ element_of tile) ≡ true
 placed a p tile is =
     let b = a ++ codes " " in
     let c = b ++ place p.x p.y in

@@ -20,8 +20,10 @@ pub one_more : (words rest : List ℕ) → list_all (λ c. nat_le 32 c) words �
 one_more [] rest h = refl
 one_more (c ∷ words) rest h = go (nat_le 32 c) (eqb c 10) refl refl h (one_more words rest)
   where
-    go : (p q : Bool) → nat_le 32 c ≡ p → eqb c 10 ≡ q → (p && list_all (λ c. nat_le 32 c) words) ≡ true → (list_all (λ c. nat_le 32 c) words ≡ true → lines_in (words ++ 10 ∷ [] ++ rest) ≡ suc (lines_in rest))
-        → length (cond q (c ∷ filter (λ c. eqb c 10) (words ++ 10 ∷ [] ++ rest)) (filter (λ c. eqb c 10) (words ++ 10 ∷ [] ++ rest))) ≡ suc (lines_in rest)
+    go : (p q : Bool) → nat_le 32 c ≡ p → eqb c 10 ≡ q → (p && list_all (λ c. nat_le 32 c) words) ≡ true
+        → (list_all (λ c. nat_le 32 c) words ≡ true → lines_in (words ++ 10 ∷ [] ++ rest) ≡ suc (lines_in rest))
+        → length (cond q (c ∷ filter (λ c. eqb c 10) (words ++ 10 ∷ [] ++ rest)) (filter (λ c. eqb c 10) (words ++ 10 ∷ [] ++ rest)))
+        ≡ suc (lines_in rest)
     go true false at is h more = more h
     go true true at is h more = absurd (apart c at is)
     go false q at is h more = absurd cc
@@ -51,7 +53,8 @@ pub are_program : (line bytes : List ℕ) → flat_map (λ (l : List ℕ). l) (l
 are_program line [] = begun line ∙ sym (append-nil line)
 are_program line (b ∷ bs) = go (eqb b 13) (are_program [] bs) (are_program (line ++ b ∷ []) bs)
   where
-    go : (t : Bool) → flat_map (λ (l : List ℕ). l) (lines_behind [] bs) ≡ bs → flat_map (λ (l : List ℕ). l) (lines_behind (line ++ b ∷ []) bs) ≡ line ++ b ∷ [] ++ bs
+    go : (t : Bool) → flat_map (λ (l : List ℕ). l) (lines_behind [] bs) ≡ bs
+        → flat_map (λ (l : List ℕ). l) (lines_behind (line ++ b ∷ []) bs) ≡ line ++ b ∷ [] ++ bs
         → flat_map (λ (l : List ℕ). l) (cond t ((line ++ b ∷ []) ∷ lines_behind [] bs) (lines_behind (line ++ b ∷ []) bs)) ≡ line ++ b ∷ bs
     go true fresh on = ap (λ (l : List ℕ). line ++ b ∷ [] ++ l) fresh ∙ append_assoc line (b ∷ []) bs
     go false fresh on = on ∙ append_assoc line (b ∷ []) bs

@@ -39,7 +39,9 @@ abbrev make : BoardId → List Tile → Properties → List Stat → Bool → Bo
 make i t p s r = record { id = i; tiles = t; properties = p; stats = s; removed = r }
 
 module _ (normal : ReadIsNormal) (b : BoardId) (es : List Edit) (board : Board) (rises : IsRising es) (sizes : HaveSizes es) (there : find_board b (replay es).boards ≡ Some board) where
-  pub tiles-shown : (cells : List (Written Tile)) → length cells ≡ TILES → ((i : ℕ) → i < TILES → value_or empty_tile (slice_get cells i) ≡ get_or board.tiles i empty_tile) → tiles_of cells ≡ board.tiles
+  pub tiles-shown : (cells : List (Written Tile)) → length cells ≡ TILES
+      → ((i : ℕ) → i < TILES → value_or empty_tile (slice_get cells i) ≡ get_or board.tiles i empty_tile)
+      → tiles_of cells ≡ board.tiles
   tiles-shown cells size was =
       let long = length-map cells (λ w. w.value) in
       same-each empty_tile (tiles_of cells) board.tiles (long ∙ size ∙ sym (is_whole normal b es board rises sizes there).tiles)

@@ -57,7 +57,8 @@ abbrev with_write : Stamp → Option BoardId → List (Written BoardId) → List
 with_write s None ws = ws
 with_write s (Some c) ws = written_at s c ∷ ws
 
-homes-next : (x : StatId) (e : Edit) (es : List Edit) (m : Option BoardId) → made_home x e.stamp e.op ≡ m → homes x (e ∷ es) ≡ with_write e.stamp m (homes x es)
+homes-next : (x : StatId) (e : Edit) (es : List Edit) (m : Option BoardId) → made_home x e.stamp e.op ≡ m
+    → homes x (e ∷ es) ≡ with_write e.stamp m (homes x es)
 homes-next x e es None m = rw m refl
 homes-next x e es (Some c) m = rw m refl
 
@@ -70,16 +71,21 @@ or-false true h = refl
 or-false false h = h
 
 -- a latest write is one of them, or what was there before
-pub latest-among : (b : BoardId) (x : StatId) (o : Option (Written BoardId)) (es : List Edit) → is_board b (home_of (latest_of o (homes x es))) ≡ true → (is_board b (home_of o) || list_any (puts x b) es) ≡ true
+pub latest-among : (b : BoardId) (x : StatId) (o : Option (Written BoardId)) (es : List Edit)
+    → is_board b (home_of (latest_of o (homes x es))) ≡ true
+    → (is_board b (home_of o) || list_any (puts x b) es) ≡ true
 latest-among b x o [] h = or-false (is_board b (home_of o)) h
 latest-among b x o (e ∷ es) h =
     go (made_home x e.stamp e.op) (sym (ap (λ ws. is_board b (home_of (latest_of o ws))) (homes-next x e es (made_home x e.stamp e.op) refl)) ∙ h) (λ w k. latest-among b x w es k)
   where
-    later : (c : BoardId) (p : Option (Written BoardId)) → (is_board b (home_of (keep_later p (written_at e.stamp c))) || list_any (puts x b) es) ≡ true → (is_board b (home_of p) || (same_board c b || list_any (puts x b) es)) ≡ true
+    later : (c : BoardId) (p : Option (Written BoardId))
+        → (is_board b (home_of (keep_later p (written_at e.stamp c))) || list_any (puts x b) es) ≡ true
+        → (is_board b (home_of p) || (same_board c b || list_any (puts x b) es)) ≡ true
     later c None k = k
     later c (Some w) k = either (before w.stamp e.stamp) k
       where
-        either : (v : Bool) → (is_board b (home_of (cond v (Some (written_at e.stamp c)) (Some w))) || list_any (puts x b) es) ≡ true → (same_board w.value b || (same_board c b || list_any (puts x b) es)) ≡ true
+        either : (v : Bool) → (is_board b (home_of (cond v (Some (written_at e.stamp c)) (Some w))) || list_any (puts x b) es) ≡ true
+            → (same_board w.value b || (same_board c b || list_any (puts x b) es)) ≡ true
         either true j = or_right (same_board w.value b) (same_board c b || list_any (puts x b) es) j
         either false j = or-between (same_board w.value b) (same_board c b) (list_any (puts x b) es) j
 
@@ -98,17 +104,22 @@ none-home : (x : StatId) (es : List Edit) → list_any (λ f. makes f (thing.Sta
 none-home x [] h = refl
 none-home x (e ∷ es) h = go (made_home x e.stamp e.op) refl (makes e (thing.Stat x)) refl h (λ k. none-home x es k)
   where
-    go : (m : Option BoardId) → made_home x e.stamp e.op ≡ m → (v : Bool) → makes e (thing.Stat x) ≡ v → (v || list_any (λ f. makes f (thing.Stat x)) es) ≡ false → (list_any (λ f. makes f (thing.Stat x)) es ≡ false → homes x es ≡ []) → homes x (e ∷ es) ≡ []
+    go : (m : Option BoardId) → made_home x e.stamp e.op ≡ m → (v : Bool) → makes e (thing.Stat x) ≡ v
+        → (v || list_any (λ f. makes f (thing.Stat x)) es) ≡ false → (list_any (λ f. makes f (thing.Stat x)) es ≡ false → homes x es ≡ [])
+        → homes x (e ∷ es) ≡ []
     go m is true v k more = absurd (true≢false k)
     go None is false v k more = homes-next x e es None is ∙ more k
     go (Some c) is false v k more = absurd (true≢false (sym (home-makes x e c is) ∙ v))
 
 -- the one that puts a stat on a board is the latest
-pub put-latest : (b : BoardId) (x : StatId) (es : List Edit) → IsRising es → list_any (puts x b) es ≡ true → is_board b (home_of (latest_in (home x) es)) ≡ true
+pub put-latest : (b : BoardId) (x : StatId) (es : List Edit) → IsRising es → list_any (puts x b) es ≡ true
+    → is_board b (home_of (latest_in (home x) es)) ≡ true
 put-latest b x [] rises h = absurd (true≢false (sym h))
 put-latest b x (e ∷ es) rises h = go (made_home x e.stamp e.op) refl h (λ k. put-latest b x es rises.1 k)
   where
-    go : (m : Option BoardId) → made_home x e.stamp e.op ≡ m → (is_board b m || list_any (puts x b) es) ≡ true → (list_any (puts x b) es ≡ true → is_board b (home_of (latest_in (home x) es)) ≡ true) → is_board b (home_of (latest_of None (homes x (e ∷ es)))) ≡ true
+    go : (m : Option BoardId) → made_home x e.stamp e.op ≡ m → (is_board b m || list_any (puts x b) es) ≡ true
+        → (list_any (puts x b) es ≡ true → is_board b (home_of (latest_in (home x) es)) ≡ true)
+        → is_board b (home_of (latest_of None (homes x (e ∷ es)))) ≡ true
     go None is k more = ap (λ ws. is_board b (home_of (latest_of None ws))) (homes-next x e es None is) ∙ more k
     go (Some c) is k more =
         let once = stat-made-once x e [] es rises (home-makes x e c is) in
@@ -136,11 +147,14 @@ module _ (normal : ReadIsNormal) (b : BoardId) (es : List Edit) (board : Board) 
   each-shown : (x : StatId) → option_map (shown_stat x) (stat_in x ts) ≡ find_stat x board.stats
   each-shown x = go (stat_in x ts) (was.each x) (find_stat x board.stats) refl
     where
-      go : (o : Option LiveStat) → IsLeftOn b (taken es) x o → (r : Option Stat) → find_stat x board.stats ≡ r → option_map (shown_stat x) o ≡ r
+      go : (o : Option LiveStat) → IsLeftOn b (taken es) x o → (r : Option Stat) → find_stat x board.stats ≡ r
+          → option_map (shown_stat x) o ≡ r
       go None k None r = refl
       go None k (Some st) r = absurd (true≢false (sym (latest-among b x None (taken es) (sym (here x) ∙ ap is_some r)) ∙ k))
-      go (Some t) k None r = absurd (true≢false (sym (put-latest b x (taken es) (taken-rising empty_document es rises) k.0) ∙ sym (here x) ∙ ap is_some r))
-      go (Some t) k (Some st) r = ap Some (replayed_stat_is_shown normal x es t st rises fits sizes (on-it b x (replay es).boards board st own there r).1 k.1)
+      go (Some t) k None r =
+          absurd (true≢false (sym (put-latest b x (taken es) (taken-rising empty_document es rises) k.0) ∙ sym (here x) ∙ ap is_some r))
+      go (Some t) k (Some st) r =
+          ap Some (replayed_stat_is_shown normal x es t st rises fits sizes (on-it b x (replay es).boards board st own there r).1 k.1)
 
   pub replayed_stats_are_shown : shown_stats ts ≡ board.stats
   replayed_stats_are_shown =

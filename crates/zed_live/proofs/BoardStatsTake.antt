@@ -50,13 +50,16 @@ pub none-put : (b : BoardId) (x : StatId) (es : List Edit) → IsUntouched b es 
 none-put b x es a = any-none (λ e. touches b e ≡ false) (puts x b) (λ e h. beside-puts b x e h) es a
 
 -- what is put on a board is made
-pub put-made : (b : BoardId) (x : StatId) (es : List Edit) → list_any (puts x b) es ≡ true → list_any (λ e. makes e (thing.Stat x)) es ≡ true
+pub put-made : (b : BoardId) (x : StatId) (es : List Edit) → list_any (puts x b) es ≡ true
+    → list_any (λ e. makes e (thing.Stat x)) es ≡ true
 put-made b x es h = any-follows (puts x b) (λ e. makes e (thing.Stat x)) (λ e k. puts-makes b x e k) es h
 
 -- ---- under each name
 
 -- an edit that makes a stat that is on the board already there is none
-unmade : (b : BoardId) (x : StatId) (e : Edit) (low high : List Edit) → IsRising (low ++ e ∷ high) → list_any (puts x b) (low ++ high) ≡ true → find_stat x (made_stats e.stamp e.op) ≡ None
+unmade : (b : BoardId) (x : StatId) (e : Edit) (low high : List Edit) → IsRising (low ++ e ∷ high)
+    → list_any (puts x b) (low ++ high) ≡ true
+    → find_stat x (made_stats e.stamp e.op) ≡ None
 unmade b x e low high rises h = go (makes e (thing.Stat x)) refl
   where
     go : (v : Bool) → makes e (thing.Stat x) ≡ v → find_stat x (made_stats e.stamp e.op) ≡ None
@@ -64,21 +67,26 @@ unmade b x e low high rises h = go (makes e (thing.Stat x)) refl
     go false v = none_is (find_stat x (made_stats e.stamp e.op)) (find-any (λ y. same_stat y.id x) (made_stats e.stamp e.op) ∙ v)
 
 -- a name that an edit neither puts on the board nor changes
-left-beside : (b : BoardId) (x : StatId) (e : Edit) (low high : List Edit) (o : Option LiveStat) → IsRising (low ++ e ∷ high) → puts x b e ≡ false → changes_stat x e.op ≡ false → IsLeftOn b (low ++ high) x o → IsLeftOn b (low ++ e ∷ high) x o
+left-beside : (b : BoardId) (x : StatId) (e : Edit) (low high : List Edit) (o : Option LiveStat) → IsRising (low ++ e ∷ high)
+    → puts x b e ≡ false → changes_stat x e.op ≡ false → IsLeftOn b (low ++ high) x o
+    → IsLeftOn b (low ++ e ∷ high) x o
 left-beside b x e low high None rises h k was = any-beside (puts x b) low e high h ∙ was
 left-beside b x e low high (Some t) rises h k was =
     let none : touches_stat x e ≡ false = ap (λ m. is_some m || changes_stat x e.op) (unmade b x e low high rises was.0) ∙ k in
     (any-insert (puts x b) low e high was.0, stat_passes_others x e low high t rises none was.1)
 
 -- a name that an edit changes
-left-changed : FieldsHoldTheLatest → (b : BoardId) (x : StatId) (e : Edit) (low high : List Edit) (o : Option LiveStat) → IsRising (low ++ e ∷ high) → puts x b e ≡ false → changes_stat x e.op ≡ true → IsLeftOn b (low ++ high) x o
+left-changed : FieldsHoldTheLatest → (b : BoardId) (x : StatId) (e : Edit) (low high : List Edit) (o : Option LiveStat)
+    → IsRising (low ++ e ∷ high) → puts x b e ≡ false → changes_stat x e.op ≡ true → IsLeftOn b (low ++ high) x o
     → IsLeftOn b (low ++ e ∷ high) x (option_map (stat_after e.stamp e.op) o)
 left-changed latest b x e low high None rises h k was = any-beside (puts x b) low e high h ∙ was
 left-changed latest b x e low high (Some t) rises h k was =
     (any-insert (puts x b) low e high was.0, stat_takes latest x e low high t rises k was.1)
 
 -- a name that an edit puts on the board
-left-put : (b : BoardId) (x : StatId) (e : Edit) (made : Stat) (low high : List Edit) (o : Option LiveStat) → IsRising (low ++ e ∷ high) → puts x b e ≡ true → find_stat x (made_stats e.stamp e.op) ≡ Some made → made.id ≡ x → IsWholeStat made → MakesNewStats e (low ++ high) → IsLeftOn b (low ++ high) x o
+left-put : (b : BoardId) (x : StatId) (e : Edit) (made : Stat) (low high : List Edit) (o : Option LiveStat) → IsRising (low ++ e ∷ high)
+    → puts x b e ≡ true → find_stat x (made_stats e.stamp e.op) ≡ Some made → made.id ≡ x → IsWholeStat made → MakesNewStats e (low ++ high)
+    → IsLeftOn b (low ++ high) x o
     → IsLeftOn b (low ++ e ∷ high) x (option_or o (Some (as_live made)))
 left-put b x e made low high o rises h is named whole new was = go o was
   where
@@ -98,7 +106,9 @@ left-put b x e made low high o rises h is named whole new was = go o was
 -- ---- every edit
 
 -- one that neither puts a stat on the board nor changes one
-pub stats_pass : (b : BoardId) (e : Edit) (low high : List Edit) (ts : Entries) → IsRising (low ++ e ∷ high) → ((x : StatId) → puts x b e ≡ false) → ((x : StatId) → changes_stat x e.op ≡ false) → StatsShow b (low ++ high) ts → StatsShow b (low ++ e ∷ high) ts
+pub stats_pass : (b : BoardId) (e : Edit) (low high : List Edit) (ts : Entries) → IsRising (low ++ e ∷ high)
+    → ((x : StatId) → puts x b e ≡ false) → ((x : StatId) → changes_stat x e.op ≡ false) → StatsShow b (low ++ high) ts
+    → StatsShow b (low ++ e ∷ high) ts
 stats_pass b e low high ts rises h k was = record {
   rise = was.rise;
   each = λ x. left-beside b x e low high (stat_in x ts) rises (h x) (k x) (was.each x);
@@ -108,31 +118,41 @@ abbrev edit_of : Stamp → Op → Edit
 edit_of s op = record { stamp = s; op = op }
 
 -- one that changes the stat of a name
-stats_change : FieldsHoldTheLatest → (b : BoardId) (y : StatId) (e : Edit) (low high : List Edit) (ts : Entries) → IsRising (low ++ e ∷ high) → ((x : StatId) → puts x b e ≡ false) → ((x : StatId) → changes_stat x e.op ≡ same_stat y x) → StatsShow b (low ++ high) ts
+stats_change : FieldsHoldTheLatest → (b : BoardId) (y : StatId) (e : Edit) (low high : List Edit) (ts : Entries)
+    → IsRising (low ++ e ∷ high) → ((x : StatId) → puts x b e ≡ false) → ((x : StatId) → changes_stat x e.op ≡ same_stat y x)
+    → StatsShow b (low ++ high) ts
     → StatsShow b (low ++ e ∷ high) (change y (stat_after e.stamp e.op) ts)
 stats_change latest b y e low high ts rises h changes was = record {
   rise = rise-change stat_name only_stat y (stat_after e.stamp e.op) ts was.rise;
   each = λ x. subst (IsLeftOn b (low ++ e ∷ high) x) (sym (in-change stat_name only_stat x y (stat_after e.stamp e.op) ts)) (go x (same_stat x y) refl);
 }
   where
-    go : (x : StatId) (v : Bool) → same_stat x y ≡ v → IsLeftOn b (low ++ e ∷ high) x (cond v (option_map (stat_after e.stamp e.op) (stat_in x ts)) (stat_in x ts))
+    go : (x : StatId) (v : Bool) → same_stat x y ≡ v
+        → IsLeftOn b (low ++ e ∷ high) x (cond v (option_map (stat_after e.stamp e.op) (stat_in x ts)) (stat_in x ts))
     go x true v =
         let w : same_stat y x ≡ true = ap (λ d. same_stat d x) (sym (stat-true x y v)) ∙ stat-itself x in
         left-changed latest b x e low high (stat_in x ts) rises (h x) (changes x ∙ w) (was.each x)
     go x false v = left-beside b x e low high (stat_in x ts) rises (h x) (changes x ∙ stat-apart x y v) (was.each x)
 
 -- the stats of a board after an edit that isn't of it
-op-changes : FieldsHoldTheLatest → (b : BoardId) (s : Stamp) (op : Op) (low high : List Edit) (x : LiveBoard) → IsRising (low ++ edit_of s op ∷ high) → ((z : StatId) → puts z b (edit_of s op) ≡ false) → StatsShow b (low ++ high) x.stats
+op-changes : FieldsHoldTheLatest → (b : BoardId) (s : Stamp) (op : Op) (low high : List Edit) (x : LiveBoard)
+    → IsRising (low ++ edit_of s op ∷ high) → ((z : StatId) → puts z b (edit_of s op) ≡ false) → StatsShow b (low ++ high) x.stats
     → StatsShow b (low ++ edit_of s op ∷ high) (stat_changed s op x).stats
-op-changes latest b s (StatRemove y) low high x rises h was = stats_change latest b y (edit_of s (StatRemove y)) low high x.stats rises h (λ z. refl) was
-op-changes latest b s (SetStat y w) low high x rises h was = stats_change latest b y (edit_of s (SetStat y w)) low high x.stats rises h (λ z. refl) was
+op-changes latest b s (StatRemove y) low high x rises h was =
+    stats_change latest b y (edit_of s (StatRemove y)) low high x.stats rises h (λ z. refl) was
+op-changes latest b s (SetStat y w) low high x rises h was =
+    stats_change latest b y (edit_of s (SetStat y w)) low high x.stats rises h (λ z. refl) was
 op-changes latest b s op low high x rises h was = stats_pass b (edit_of s op) low high x.stats rises h (λ z. refl) was
 
-pub stats_beside : FieldsHoldTheLatest → (b : BoardId) (e : Edit) (low high : List Edit) (x : LiveBoard) → IsRising (low ++ e ∷ high) → touches b e ≡ false → StatsShow b (low ++ high) x.stats → StatsShow b (low ++ e ∷ high) (stat_changed e.stamp e.op x).stats
+pub stats_beside : FieldsHoldTheLatest → (b : BoardId) (e : Edit) (low high : List Edit) (x : LiveBoard) → IsRising (low ++ e ∷ high)
+    → touches b e ≡ false → StatsShow b (low ++ high) x.stats
+    → StatsShow b (low ++ e ∷ high) (stat_changed e.stamp e.op x).stats
 stats_beside latest b e low high x rises h was = op-changes latest b e.stamp e.op low high x rises (λ z. beside-puts b z e h) was
 
 -- one that adds a stat to the board
-pub stats_add : (b c : BoardId) (s : Stamp) (fields : StatFields) (low high : List Edit) (ts : Entries) → IsRising (low ++ edit_of s (StatAdd c fields) ∷ high) → same_board c b ≡ true → IsStatFields fields → MakesNewStats (edit_of s (StatAdd c fields)) (low ++ high) → StatsShow b (low ++ high) ts
+pub stats_add : (b c : BoardId) (s : Stamp) (fields : StatFields) (low high : List Edit) (ts : Entries)
+    → IsRising (low ++ edit_of s (StatAdd c fields) ∷ high) → same_board c b ≡ true → IsStatFields fields
+    → MakesNewStats (edit_of s (StatAdd c fields)) (low ++ high) → StatsShow b (low ++ high) ts
     → StatsShow b (low ++ edit_of s (StatAdd c fields) ∷ high) (add_made (plain_stat (stat_of s 0) false fields) ts)
 stats_add b c s fields low high ts rises here sizes new was = record {
   rise = rise-add_made n ts was.rise;
@@ -148,7 +168,8 @@ stats_add b c s fields low high ts rises here sizes new was = record {
     whole : IsWholeStat n
     whole = record { bytes = sizes.all_bytes; numbers = sizes.all_numbers; stays = λ h. refl }
 
-    go : (x : StatId) (v : Bool) → same_stat x n.id ≡ v → IsLeftOn b (low ++ e ∷ high) x (option_or (stat_in x ts) (cond v (Some (as_live n)) None))
+    go : (x : StatId) (v : Bool) → same_stat x n.id ≡ v
+        → IsLeftOn b (low ++ e ∷ high) x (option_or (stat_in x ts) (cond v (Some (as_live n)) None))
     go x true v =
         let i : n.id ≡ x = sym (stat-true x n.id v) in
         let w : same_stat n.id x ≡ true = ap (λ d. same_stat d x) i ∙ stat-itself x in
@@ -161,7 +182,8 @@ stats_add b c s fields low high ts rises here sizes new was = record {
         subst (IsLeftOn b (low ++ e ∷ high) x) (or-none (stat_in x ts)) (left-beside b x e low high (stat_in x ts) rises put refl (was.each x))
 
 -- one that makes the board
-pub stats_made : (b : BoardId) (e : Edit) (made : Board) (low high : List Edit) → IsRising (low ++ e ∷ high) → find_board b (made_boards e.stamp e.op) ≡ Some made → IsWholeBoard made → IsUntouched b (low ++ high) → MakesNewStats e (low ++ high)
+pub stats_made : (b : BoardId) (e : Edit) (made : Board) (low high : List Edit) → IsRising (low ++ e ∷ high)
+    → find_board b (made_boards e.stamp e.op) ≡ Some made → IsWholeBoard made → IsUntouched b (low ++ high) → MakesNewStats e (low ++ high)
     → StatsShow b (low ++ e ∷ high) (add_each made.stats [])
 stats_made b e made low high rises is whole none new = record {
   rise = rise-add_each made.stats [] tt;

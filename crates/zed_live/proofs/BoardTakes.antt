@@ -42,14 +42,16 @@ of-changes : (b : BoardId) (op : Op) → is_of b op ≡ false → changes_board 
 of-changes b (StatAdd c fields) h = refl
 of-changes b op h = h
 
-pub untouched-parts : (b : BoardId) (e : Edit) → touches b e ≡ false → (find_board b (made_boards e.stamp e.op) ≡ None) × (changes_board b e.op ≡ false)
+pub untouched-parts : (b : BoardId) (e : Edit) → touches b e ≡ false
+    → (find_board b (made_boards e.stamp e.op) ≡ None) × (changes_board b e.op ≡ false)
 untouched-parts b e h =
     let p = or_parts (is_some (find_board b (made_boards e.stamp e.op))) (is_of b e.op) h in
     (none_is (find_board b (made_boards e.stamp e.op)) p.0, of-changes b e.op p.1)
 
 module _ {V : Type 0} (f : Field Board V) (b : BoardId) where
   -- an edit that neither makes a board nor changes it writes none of its registers
-  beside-writes : (e : Edit) → find_board b (made_boards e.stamp e.op) ≡ None → changes_board b e.op ≡ false → (of_board b f).writes e ≡ None
+  beside-writes : (e : Edit) → find_board b (made_boards e.stamp e.op) ≡ None → changes_board b e.op ≡ false
+      → (of_board b f).writes e ≡ None
   beside-writes e none kept =
       ap (λ m. option_or (option_map f.value m) (cond (changes_board b e.op) (f.set e.op) None)) none
       ∙ ap (λ (c : Bool). cond c (f.set e.op) None) kept
@@ -62,15 +64,19 @@ module _ {V : Type 0} (f : Field Board V) (b : BoardId) where
       rw (beside-writes e p.0 p.1) (none-latest es a.1)
 
   -- what an edit doesn't write stays
-  passes : (e : Edit) (low high : List Edit) (kept : Option (Written V)) → IsRising (low ++ e ∷ high) → find_board b (made_boards e.stamp e.op) ≡ None → changes_board b e.op ≡ false → kept ≡ latest_in (of_board b f) (low ++ high) → kept ≡ latest_in (of_board b f) (low ++ e ∷ high)
+  passes : (e : Edit) (low high : List Edit) (kept : Option (Written V)) → IsRising (low ++ e ∷ high)
+      → find_board b (made_boards e.stamp e.op) ≡ None → changes_board b e.op ≡ false → kept ≡ latest_in (of_board b f) (low ++ high)
+      → kept ≡ latest_in (of_board b f) (low ++ e ∷ high)
   passes e low high kept rises none other was =
       put-late (of_board b f) e low high kept kept rises was (wrote (of_board b f) e kept kept None (beside-writes e none other) refl)
 
-  made-writes : (e : Edit) (made : Board) → find_board b (made_boards e.stamp e.op) ≡ Some made → (of_board b f).writes e ≡ Some (f.value made)
+  made-writes : (e : Edit) (made : Board) → find_board b (made_boards e.stamp e.op) ≡ Some made
+      → (of_board b f).writes e ≡ Some (f.value made)
   made-writes e made is = ap (λ m. option_or (option_map f.value m) (cond (changes_board b e.op) (f.set e.op) None)) is
 
   -- the making of a board that nothing else touches is the latest write
-  pub written-first : (e : Edit) (made : Board) (low high : List Edit) → IsRising (low ++ e ∷ high) → find_board b (made_boards e.stamp e.op) ≡ Some made → IsUntouched b (low ++ high)
+  pub written-first : (e : Edit) (made : Board) (low high : List Edit) → IsRising (low ++ e ∷ high)
+      → find_board b (made_boards e.stamp e.op) ≡ Some made → IsUntouched b (low ++ high)
       → Some (written_at e.stamp (f.value made)) ≡ latest_in (of_board b f) (low ++ e ∷ high)
   written-first e made low high rises is none =
       put-late (of_board b f) e low high None (Some (written_at e.stamp (f.value made))) rises (sym (none-latest (low ++ high) none))
@@ -93,7 +99,8 @@ untouched-properties b es none = record {
 
 -- ---- cells
 
-made-cell : (s : Stamp) (d : Tile) (tiles : List Tile) (i : ℕ) → i < length tiles → slice_get (map (written_at s) tiles) i ≡ Some (written_at s (get_or tiles i d))
+made-cell : (s : Stamp) (d : Tile) (tiles : List Tile) (i : ℕ) → i < length tiles
+    → slice_get (map (written_at s) tiles) i ≡ Some (written_at s (get_or tiles i d))
 made-cell s d [] i h = absurd (omega arith)
 made-cell s d (t ∷ tiles) zero h = refl
 made-cell s d (t ∷ tiles) (suc i) h = made-cell s d tiles i (omega arith)
@@ -101,10 +108,12 @@ made-cell s d (t ∷ tiles) (suc i) h = made-cell s d tiles i (omega arith)
 -- a cell after a rectangle
 module _ (latest : CellsHoldTheLatest) where
   pub drawn-cell : (s : Stamp) (r : Rectangle) (tile : Tile) (cells : List (Written Tile)) (i : ℕ) → i < length cells
-      → slice_get (set_cells r (written_at s tile) cells) i ≡ kept_after s (slice_get cells i) (cond (is_inside r (place_at i)) (Some tile) None)
+      → slice_get (set_cells r (written_at s tile) cells) i
+      ≡ kept_after s (slice_get cells i) (cond (is_inside r (place_at i)) (Some tile) None)
   drawn-cell s r tile cells i h = latest i ((r, written_at s tile) ∷ []) cells h ∙ go (is_inside r (place_at i)) refl (slice_get cells i)
     where
-      go : (v : Bool) → is_inside r (place_at i) ≡ v → (o : Option (Written Tile)) → latest_of o (writes_into i ((r, written_at s tile) ∷ [])) ≡ kept_after s o (cond v (Some tile) None)
+      go : (v : Bool) → is_inside r (place_at i) ≡ v → (o : Option (Written Tile))
+          → latest_of o (writes_into i ((r, written_at s tile) ∷ [])) ≡ kept_after s o (cond v (Some tile) None)
       go true v o = rw v refl
       go false v o = rw v refl
 
@@ -114,14 +123,17 @@ abbrev edit_of : Stamp → Op → Edit
 edit_of s op = record { stamp = s; op = op }
 
 -- a setting, by whichever name of the board
-set-properties : (b c : BoardId) (s : Stamp) (setting : BoardSetting) (low high : List Edit) (x : LiveBoard) → b ≡ c → IsRising (low ++ edit_of s (SetBoard c setting) ∷ high) → PropertiesShow b (low ++ high) x.properties
+set-properties : (b c : BoardId) (s : Stamp) (setting : BoardSetting) (low high : List Edit) (x : LiveBoard) → b ≡ c
+    → IsRising (low ++ edit_of s (SetBoard c setting) ∷ high) → PropertiesShow b (low ++ high) x.properties
     → PropertiesShow b (low ++ edit_of s (SetBoard c setting) ∷ high) (write_property s setting x.properties)
 set-properties b c s setting low high x same =
     let P : BoardId → Type 0 = λ d. IsRising (low ++ edit_of s (SetBoard d setting) ∷ high) → PropertiesShow b (low ++ high) x.properties → PropertiesShow b (low ++ edit_of s (SetBoard d setting) ∷ high) (write_property s setting x.properties) in
     subst P same (properties_take_settings b s setting low high x.properties)
 
 module _ (latest : CellsHoldTheLatest) where
-  op-takes : (b : BoardId) (s : Stamp) (op : Op) (low high : List Edit) (x : LiveBoard) → IsRising (low ++ edit_of s op ∷ high) → IsOp op → MakesNewStats (edit_of s op) (low ++ high) → is_of b op ≡ true → BoardShows b (low ++ high) x → BoardShows b (low ++ edit_of s op ∷ high) (board_after s op x)
+  op-takes : (b : BoardId) (s : Stamp) (op : Op) (low high : List Edit) (x : LiveBoard) → IsRising (low ++ edit_of s op ∷ high) → IsOp op
+      → MakesNewStats (edit_of s op) (low ++ high) → is_of b op ≡ true → BoardShows b (low ++ high) x
+      → BoardShows b (low ++ edit_of s op ∷ high) (board_after s op x)
   op-takes b s (BoardRemove c) low high x rises sizes new h was =
       let e = edit_of s (BoardRemove c) in
       record {
@@ -202,7 +214,8 @@ board_passes_others latest b e low high x rises h was =
       whole = subst (λ cs. length cs ≡ TILES) same.2 was.whole;
       properties = subst (PropertiesShow b (low ++ e ∷ high)) same.0 (properties_pass_others b e low high x.properties rises p.0 (sets-none b e.op p.1) was.properties);
       removed = sym same.1 ∙ passes board_removed b e low high x.removed rises p.0 p.1 was.removed;
-      cells = λ i l. sym (ap (λ cs. slice_get cs i) same.2) ∙ passes (cell i) b e low high (slice_get x.cells i) rises p.0 p.1 (was.cells i l);
+      cells =
+          λ i l. sym (ap (λ cs. slice_get cs i) same.2) ∙ passes (cell i) b e low high (slice_get x.cells i) rises p.0 p.1 (was.cells i l);
       stats = stats_beside latest b e low high x rises h was.stats;
     }
 

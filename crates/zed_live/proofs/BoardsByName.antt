@@ -20,14 +20,16 @@ pub in-change_all : (b : BoardId) (f : LiveBoard → LiveBoard) (ys : Boards) �
 in-change_all b f [] = refl
 in-change_all b f (y ∷ ys) = go (same_board b y.0) (in-change_all b f ys)
   where
-    go : (v : Bool) → board_in b (change_all f ys) ≡ option_map f (board_in b ys) → cond v (Some (f y.1)) (board_in b (change_all f ys)) ≡ option_map f (cond v (Some y.1) (board_in b ys))
+    go : (v : Bool) → board_in b (change_all f ys) ≡ option_map f (board_in b ys)
+        → cond v (Some (f y.1)) (board_in b (change_all f ys)) ≡ option_map f (cond v (Some y.1) (board_in b ys))
     go true more = refl
     go false more = more
 
 abbrev pub Rise : Boards → Type 0
 Rise ys = NamesRise (λ y. (y.0).name) ys
 
-all-changed_all : (P : BoardId → Type 0) (f : LiveBoard → LiveBoard) (ys : Boards) → AllByRecursion (λ y. P y.0) ys → AllByRecursion (λ y. P y.0) (change_all f ys)
+all-changed_all : (P : BoardId → Type 0) (f : LiveBoard → LiveBoard) (ys : Boards) → AllByRecursion (λ y. P y.0) ys
+    → AllByRecursion (λ y. P y.0) (change_all f ys)
 all-changed_all P f [] a = tt
 all-changed_all P f (y ∷ ys) a = (a.0, all-changed_all P f ys a.1)
 

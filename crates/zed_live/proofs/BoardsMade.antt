@@ -15,8 +15,10 @@ opened : (s : Stamp) (r : Result Contents WorldError) → (open_world s r empty_
 opened s (Ok w) = refl
 opened s (Err e) = refl
 
-pub genesis-adds : (e : Edit) (bytes : List ℕ) (ys : Boards) → e.op ≡ Genesis bytes → add_all (all_as_made e.stamp (made_by e).boards) ys ≡ boards_after e.stamp e.op ys
+pub genesis-adds : (e : Edit) (bytes : List ℕ) (ys : Boards) → e.op ≡ Genesis bytes
+    → add_all (all_as_made e.stamp (made_by e).boards) ys ≡ boards_after e.stamp e.op ys
 genesis-adds e bytes ys is = rw is (ap (λ bs. add_all (all_as_made e.stamp bs) ys) (opened e.stamp (world_at bytes)))
 
-pub board-adds : (e : Edit) (name : List ℕ) (ys : Boards) → e.op ≡ BoardAdd name → add_all (all_as_made e.stamp (made_by e).boards) ys ≡ boards_after e.stamp e.op ys
+pub board-adds : (e : Edit) (name : List ℕ) (ys : Boards) → e.op ≡ BoardAdd name
+    → add_all (all_as_made e.stamp (made_by e).boards) ys ≡ boards_after e.stamp e.op ys
 board-adds e name ys is = rw is refl

@@ -36,7 +36,9 @@ find-shown : (b : BoardId) (ys : Boards) → find_board b (shown_boards ys) ≡ 
 find-shown b [] = refl
 find-shown b (y ∷ ys) = go (same_board b y.0) refl (find-shown b ys)
   where
-    go : (v : Bool) → same_board b y.0 ≡ v → find_board b (shown_boards ys) ≡ option_map (shown_board b) (board_in b ys) → cond (same_board y.0 b) (Some (shown_board y.0 y.1)) (find_board b (shown_boards ys)) ≡ option_map (shown_board b) (cond v (Some y.1) (board_in b ys))
+    go : (v : Bool) → same_board b y.0 ≡ v → find_board b (shown_boards ys) ≡ option_map (shown_board b) (board_in b ys)
+        → cond (same_board y.0 b) (Some (shown_board y.0 y.1)) (find_board b (shown_boards ys))
+        ≡ option_map (shown_board b) (cond v (Some y.1) (board_in b ys))
     go true v more =
         let i = same_board-true b y.0 v in
         let w : same_board y.0 b ≡ true = ap (λ d. same_board d b) (sym i) ∙ same_name-itself b.name in
@@ -53,7 +55,8 @@ module _ (normal : ReadIsNormal) (es : List Edit) (ys : Boards) (rises : IsRisin
   each-shown : (b : BoardId) → option_map (shown_board b) (board_in b ys) ≡ find_board b (replay es).boards
   each-shown b = go (board_in b ys) (was.each b) (find_board b (replay es).boards) refl
     where
-      go : (o : Option LiveBoard) → IsLeft b (taken es) o → (r : Option Board) → find_board b (replay es).boards ≡ r → option_map (shown_board b) o ≡ r
+      go : (o : Option LiveBoard) → IsLeft b (taken es) o → (r : Option Board) → find_board b (replay es).boards ≡ r
+          → option_map (shown_board b) o ≡ r
       go None k None r = refl
       go None k (Some board) r = absurd (true≢false (ap is_some (sym r) ∙ there b ∙ untouched-unmade b (taken es) k))
       go (Some x) k None r = absurd (true≢false (sym k.0 ∙ sym (there b) ∙ ap is_some r))

@@ -52,12 +52,14 @@ untouched-unmade b (e ∷ es) a = ap (λ v. v || list_any (λ f. makes f (thing.
 
 -- ---- what is made is whole
 
-opened_whole : (s : Stamp) (r : Result Contents WorldError) → AllByRecursion IsWholeBoard (open_world s r empty_document).boards → AllByRecursion IsWholeBoard (opened_from s r)
+opened_whole : (s : Stamp) (r : Result Contents WorldError) → AllByRecursion IsWholeBoard (open_world s r empty_document).boards
+    → AllByRecursion IsWholeBoard (opened_from s r)
 opened_whole s (Ok w) a = a
 opened_whole s (Err e) a = tt
 
 pub made_whole : ReadIsNormal → (s : Stamp) (op : Op) → AllByRecursion IsWholeBoard (made_boards s op)
-made_whole normal s (Genesis bytes) = opened_whole s (world_at bytes) (step_whole normal empty_document (record { stamp = s; op = Genesis bytes }) tt empty_whole).boards
+made_whole normal s (Genesis bytes) =
+    opened_whole s (world_at bytes) (step_whole normal empty_document (record { stamp = s; op = Genesis bytes }) tt empty_whole).boards
 made_whole normal s (BoardAdd name) =
     let empty = (step_whole normal empty_document (record { stamp = s; op = BoardAdd [] }) (omega arith) empty_whole).boards.0 in
     (record { tiles = empty.tiles; bytes = refl; flags = refl; exits = refl; texts = refl; stats = empty.stats }, tt)
@@ -66,7 +68,8 @@ made_whole normal s _ = tt
 -- ---- which edits are of a stat
 
 -- a stat that an edit makes is made by no other, so none of them changes it
-new-stats : (e : Edit) (low high : List Edit) (ys : Boards) → IsRising (low ++ e ∷ high) → BoardsShow (low ++ high) ys → MakesNewStats e (low ++ high)
+new-stats : (e : Edit) (low high : List Edit) (ys : Boards) → IsRising (low ++ e ∷ high) → BoardsShow (low ++ high) ys
+    → MakesNewStats e (low ++ high)
 new-stats e low high ys rises was x h = go (list_any (λ f. changes_stat x f.op) (low ++ high)) refl
   where
     once : list_any (λ f. makes f (thing.Stat x)) (low ++ high) ≡ false
@@ -82,7 +85,9 @@ new-stats e low high ys rises was x h = go (list_any (λ f. changes_stat x f.op)
         (All-both (λ f. makes f (thing.Stat x) ≡ false) (λ f. changes_stat x f.op ≡ false) (low ++ high) (none-any (λ f. makes f (thing.Stat x)) (low ++ high) once) (none-any (λ f. changes_stat x f.op) (low ++ high) v))
 
 -- each stat that is changed is made, with one more edit too
-changed-made : (e : Edit) (low high : List Edit) (ys : Boards) → ChangesMade (low ++ high) e → BoardsShow (low ++ high) ys → (x : StatId) → list_any (λ f. changes_stat x f.op) (low ++ e ∷ high) ≡ true → IsMadeStat x (low ++ e ∷ high)
+changed-made : (e : Edit) (low high : List Edit) (ys : Boards) → ChangesMade (low ++ high) e → BoardsShow (low ++ high) ys → (x : StatId)
+    → list_any (λ f. changes_stat x f.op) (low ++ e ∷ high) ≡ true
+    → IsMadeStat x (low ++ e ∷ high)
 changed-made e low high ys known was x h = any-insert (λ f. makes f (thing.Stat x)) low e high (go (changes_stat x e.op) refl (sym (any-late (λ f. changes_stat x f.op) low e high) ∙ h))
   where
     go : (v : Bool) → changes_stat x e.op ≡ v → (v || list_any (λ f. changes_stat x f.op) (low ++ high)) ≡ true → IsMadeStat x (low ++ high)
@@ -92,20 +97,25 @@ changed-made e low high ys known was x h = any-insert (λ f. makes f (thing.Stat
 -- ---- under each name
 
 -- a name that an edit doesn't touch
-left-beside : FieldsHoldTheLatest → (b : BoardId) (e : Edit) (low high : List Edit) (o : Option LiveBoard) → IsRising (low ++ e ∷ high) → touches b e ≡ false → IsLeft b (low ++ high) o → IsLeft b (low ++ e ∷ high) (option_map (stat_changed e.stamp e.op) o)
+left-beside : FieldsHoldTheLatest → (b : BoardId) (e : Edit) (low high : List Edit) (o : Option LiveBoard) → IsRising (low ++ e ∷ high)
+    → touches b e ≡ false → IsLeft b (low ++ high) o
+    → IsLeft b (low ++ e ∷ high) (option_map (stat_changed e.stamp e.op) o)
 left-beside fields b e low high None rises h was = all-insert (λ f. touches b f ≡ false) low e high h was
 left-beside fields b e low high (Some x) rises h was =
     (any-insert (λ f. makes f (thing.Board b)) low e high was.0, board_passes_others fields b e low high x rises h was.1)
 
 -- a name whose board an edit is of
-left-changed : CellsHoldTheLatest → (b : BoardId) (e : Edit) (low high : List Edit) (o : Option LiveBoard) → IsRising (low ++ e ∷ high) → HasSizes e → MakesNewStats e (low ++ high) → is_of b e.op ≡ true → IsMade b (low ++ high) → IsLeft b (low ++ high) o
+left-changed : CellsHoldTheLatest → (b : BoardId) (e : Edit) (low high : List Edit) (o : Option LiveBoard) → IsRising (low ++ e ∷ high)
+    → HasSizes e → MakesNewStats e (low ++ high) → is_of b e.op ≡ true → IsMade b (low ++ high) → IsLeft b (low ++ high) o
     → IsLeft b (low ++ e ∷ high) (option_map (board_after e.stamp e.op) o)
 left-changed latest b e low high None rises sizes new h made was = absurd (true≢false (sym made ∙ untouched-unmade b (low ++ high) was))
 left-changed latest b e low high (Some x) rises sizes new h made was =
     (any-insert (λ f. makes f (thing.Board b)) low e high was.0, board_takes latest b e low high x rises sizes new h was.1)
 
 -- a name whose board an edit makes
-left-made : ReadIsNormal → (b : BoardId) (e : Edit) (made : Board) (low high : List Edit) (o : Option LiveBoard) → IsRising (low ++ e ∷ high) → MakesNewStats e (low ++ high) → find_board b (made_boards e.stamp e.op) ≡ Some made → IsLeft b (low ++ high) o
+left-made : ReadIsNormal → (b : BoardId) (e : Edit) (made : Board) (low high : List Edit) (o : Option LiveBoard)
+    → IsRising (low ++ e ∷ high) → MakesNewStats e (low ++ high) → find_board b (made_boards e.stamp e.op) ≡ Some made
+    → IsLeft b (low ++ high) o
     → IsLeft b (low ++ e ∷ high) (option_or o (Some (as_made e.stamp made)))
 left-made normal b e made low high o rises new is was = go o was
   where
@@ -124,7 +134,9 @@ in-made : (b : BoardId) (s : Stamp) (bs : List Board) → board_in b (all_as_mad
 in-made b s [] = refl
 in-made b s (x ∷ bs) = go (same_board b x.id) refl (in-made b s bs)
   where
-    go : (v : Bool) → same_board b x.id ≡ v → board_in b (all_as_made s bs) ≡ option_map (as_made s) (find_board b bs) → cond v (Some (as_made s x)) (board_in b (all_as_made s bs)) ≡ option_map (as_made s) (cond (same_board x.id b) (Some x) (find_board b bs))
+    go : (v : Bool) → same_board b x.id ≡ v → board_in b (all_as_made s bs) ≡ option_map (as_made s) (find_board b bs)
+        → cond v (Some (as_made s x)) (board_in b (all_as_made s bs))
+        ≡ option_map (as_made s) (cond (same_board x.id b) (Some x) (find_board b bs))
     go true v more =
         let w : same_board x.id b ≡ true = ap (λ d. same_board d b) (sym (same_board-true b x.id v)) ∙ same_name-itself b.name in
         rw w refl
@@ -139,22 +151,27 @@ module _ (normal : ReadIsNormal) (latest : CellsHoldTheLatest) (fields : FieldsH
   new = new-stats e low high ys rises was
 
   -- one that changes no stat leaves the boards that it doesn't touch
-  left-same : (b : BoardId) → ((x : LiveBoard) → stat_changed e.stamp e.op x ≡ x) → touches b e ≡ false → IsLeft b (low ++ e ∷ high) (board_in b ys)
-  left-same b same h = subst (IsLeft b (low ++ e ∷ high)) (stays (board_in b ys)) (left-beside fields b e low high (board_in b ys) rises h (was.each b))
+  left-same : (b : BoardId) → ((x : LiveBoard) → stat_changed e.stamp e.op x ≡ x) → touches b e ≡ false
+      → IsLeft b (low ++ e ∷ high) (board_in b ys)
+  left-same b same h =
+      subst (IsLeft b (low ++ e ∷ high)) (stays (board_in b ys)) (left-beside fields b e low high (board_in b ys) rises h (was.each b))
     where
       stays : (o : Option LiveBoard) → option_map (stat_changed e.stamp e.op) o ≡ o
       stays None = refl
       stays (Some x) = ap Some (same x)
 
   -- one that is of the board of a name
-  changed-show : (c : BoardId) → ((x : LiveBoard) → stat_changed e.stamp e.op x ≡ x) → ((b : BoardId) → touches b e ≡ same_board c b) → ((b : BoardId) → is_of b e.op ≡ same_board c b) → BoardsShow (low ++ e ∷ high) (change c (board_after e.stamp e.op) ys)
+  changed-show : (c : BoardId) → ((x : LiveBoard) → stat_changed e.stamp e.op x ≡ x) → ((b : BoardId) → touches b e ≡ same_board c b)
+      → ((b : BoardId) → is_of b e.op ≡ same_board c b)
+      → BoardsShow (low ++ e ∷ high) (change c (board_after e.stamp e.op) ys)
   changed-show c same touch changes = record {
     rise = rise-change board_name only_board c (board_after e.stamp e.op) ys was.rise;
     each = λ b. subst (IsLeft b (low ++ e ∷ high)) (sym (in-change board_name only_board b c (board_after e.stamp e.op) ys)) (go b (same_board b c) refl);
     changed = changed-made e low high ys known was;
   }
     where
-      go : (b : BoardId) (v : Bool) → same_board b c ≡ v → IsLeft b (low ++ e ∷ high) (cond v (option_map (board_after e.stamp e.op) (board_in b ys)) (board_in b ys))
+      go : (b : BoardId) (v : Bool) → same_board b c ≡ v
+          → IsLeft b (low ++ e ∷ high) (cond v (option_map (board_after e.stamp e.op) (board_in b ys)) (board_in b ys))
       go b true v =
           let w : same_board c b ≡ true = ap (λ d. same_board d b) (sym (same_board-true b c v)) ∙ same_name-itself b.name in
           let k : is_of b e.op ≡ true = changes b ∙ w in
@@ -170,7 +187,8 @@ module _ (normal : ReadIsNormal) (latest : CellsHoldTheLatest) (fields : FieldsH
   }
 
   -- one that is of none
-  made-show : ((x : LiveBoard) → stat_changed e.stamp e.op x ≡ x) → ((b : BoardId) → is_of b e.op ≡ false) → BoardsShow (low ++ e ∷ high) (add_all (all_as_made e.stamp (made_boards e.stamp e.op)) ys)
+  made-show : ((x : LiveBoard) → stat_changed e.stamp e.op x ≡ x) → ((b : BoardId) → is_of b e.op ≡ false)
+      → BoardsShow (low ++ e ∷ high) (add_all (all_as_made e.stamp (made_boards e.stamp e.op)) ys)
   made-show same changes = record {
     rise = rise-add_all board_name only_board (all_as_made e.stamp (made_boards e.stamp e.op)) ys was.rise;
     each = λ b.
@@ -184,7 +202,8 @@ module _ (normal : ReadIsNormal) (latest : CellsHoldTheLatest) (fields : FieldsH
       or-none None = refl
       or-none (Some x) = refl
 
-      go : (b : BoardId) (m : Option Board) → find_board b (made_boards e.stamp e.op) ≡ m → IsLeft b (low ++ e ∷ high) (option_or (board_in b ys) (option_map (as_made e.stamp) m))
+      go : (b : BoardId) (m : Option Board) → find_board b (made_boards e.stamp e.op) ≡ m
+          → IsLeft b (low ++ e ∷ high) (option_or (board_in b ys) (option_map (as_made e.stamp) m))
       go b (Some made) is = left-made normal b e made low high (board_in b ys) rises new is (was.each b)
       go b None is =
           subst (IsLeft b (low ++ e ∷ high)) (or-none (board_in b ys))
@@ -193,17 +212,26 @@ module _ (normal : ReadIsNormal) (latest : CellsHoldTheLatest) (fields : FieldsH
 abbrev edit_of : Stamp → Op → Edit
 edit_of s op = record { stamp = s; op = op }
 
-op-show : ReadIsNormal → CellsHoldTheLatest → FieldsHoldTheLatest → (s : Stamp) (op : Op) (low high : List Edit) (ys : Boards) → IsRising (low ++ edit_of s op ∷ high) → HasSizes (edit_of s op) → ChangesMade (low ++ high) (edit_of s op) → BoardsShow (low ++ high) ys → BoardsShow (low ++ edit_of s op ∷ high) (boards_after s op ys)
-op-show normal latest fields s (BoardRemove c) low high ys rises sizes known was = changed-show normal latest fields (edit_of s (BoardRemove c)) low high ys rises sizes known was c (λ x. refl) (λ b. refl) (λ b. refl)
+op-show : ReadIsNormal → CellsHoldTheLatest → FieldsHoldTheLatest → (s : Stamp) (op : Op) (low high : List Edit) (ys : Boards)
+    → IsRising (low ++ edit_of s op ∷ high) → HasSizes (edit_of s op) → ChangesMade (low ++ high) (edit_of s op)
+    → BoardsShow (low ++ high) ys
+    → BoardsShow (low ++ edit_of s op ∷ high) (boards_after s op ys)
+op-show normal latest fields s (BoardRemove c) low high ys rises sizes known was =
+    changed-show normal latest fields (edit_of s (BoardRemove c)) low high ys rises sizes known was c (λ x. refl) (λ b. refl) (λ b. refl)
 op-show normal latest fields s (SetBoard c setting) low high ys rises sizes known was = changed-show normal latest fields (edit_of s (SetBoard c setting)) low high ys rises sizes known was c (λ x. refl) (λ b. refl) (λ b. refl)
 op-show normal latest fields s (SetCells c cells tile) low high ys rises sizes known was = changed-show normal latest fields (edit_of s (SetCells c cells tile)) low high ys rises sizes known was c (λ x. refl) (λ b. refl) (λ b. refl)
-op-show normal latest fields s (StatAdd c new) low high ys rises sizes known was = changed-show normal latest fields (edit_of s (StatAdd c new)) low high ys rises sizes known was c (λ x. refl) (λ b. refl) (λ b. refl)
-op-show normal latest fields s (StatRemove x) low high ys rises sizes known was = passed-show normal latest fields (edit_of s (StatRemove x)) low high ys rises sizes known was (λ b. refl)
-op-show normal latest fields s (SetStat x setting) low high ys rises sizes known was = passed-show normal latest fields (edit_of s (SetStat x setting)) low high ys rises sizes known was (λ b. refl)
-op-show normal latest fields s op low high ys rises sizes known was = made-show normal latest fields (edit_of s op) low high ys rises sizes known was (λ x. refl) (λ b. refl)
+op-show normal latest fields s (StatAdd c new) low high ys rises sizes known was =
+    changed-show normal latest fields (edit_of s (StatAdd c new)) low high ys rises sizes known was c (λ x. refl) (λ b. refl) (λ b. refl)
+op-show normal latest fields s (StatRemove x) low high ys rises sizes known was =
+    passed-show normal latest fields (edit_of s (StatRemove x)) low high ys rises sizes known was (λ b. refl)
+op-show normal latest fields s (SetStat x setting) low high ys rises sizes known was =
+    passed-show normal latest fields (edit_of s (SetStat x setting)) low high ys rises sizes known was (λ b. refl)
+op-show normal latest fields s op low high ys rises sizes known was =
+    made-show normal latest fields (edit_of s op) low high ys rises sizes known was (λ x. refl) (λ b. refl)
 
 pub boards_take : ReadIsNormal → CellsHoldTheLatest → FieldsHoldTheLatest → BoardsTake
-boards_take normal latest fields e low high ys rises sizes known was = op-show normal latest fields e.stamp e.op low high ys rises sizes known was
+boards_take normal latest fields e low high ys rises sizes known was =
+    op-show normal latest fields e.stamp e.op low high ys rises sizes known was
 
 pub no_board_is_made : NoBoardIsMade
 no_board_is_made = record { rise = tt; each = λ b. tt; changed = λ x h. absurd (true≢false (sym h)) }

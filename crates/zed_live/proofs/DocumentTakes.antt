@@ -32,16 +32,23 @@ use Rattle.zed_live.proofs.StatsByName.{stat-true}
 
 -- an edit that can be done is of no board but one that is there
 board_there : (p : Plain) (op : Op) (b : BoardId) → has_all p (names_of op) ≡ true → is_of b op ≡ true → has p (thing.Board b) ≡ true
-board_there p (BoardRemove c) b h k = ap (λ d. has p (thing.Board d)) (sym (same_board-true c b k)) ∙ (and_parts (has p (thing.Board c)) true h).0
-board_there p (SetBoard c setting) b h k = ap (λ d. has p (thing.Board d)) (sym (same_board-true c b k)) ∙ (and_parts (has p (thing.Board c)) (has_all p (board_names setting)) h).0
-board_there p (SetCells c cells tile) b h k = ap (λ d. has p (thing.Board d)) (sym (same_board-true c b k)) ∙ (and_parts (has p (thing.Board c)) true h).0
-board_there p (StatAdd c fields) b h k = ap (λ d. has p (thing.Board d)) (sym (same_board-true c b k)) ∙ (and_parts (has p (thing.Board c)) (has_all p (target_named fields.p3 ++ text_named fields.text)) h).0
+board_there p (BoardRemove c) b h k =
+    ap (λ d. has p (thing.Board d)) (sym (same_board-true c b k)) ∙ (and_parts (has p (thing.Board c)) true h).0
+board_there p (SetBoard c setting) b h k =
+    ap (λ d. has p (thing.Board d)) (sym (same_board-true c b k))
+    ∙ (and_parts (has p (thing.Board c)) (has_all p (board_names setting)) h).0
+board_there p (SetCells c cells tile) b h k =
+    ap (λ d. has p (thing.Board d)) (sym (same_board-true c b k)) ∙ (and_parts (has p (thing.Board c)) true h).0
+board_there p (StatAdd c fields) b h k =
+    ap (λ d. has p (thing.Board d)) (sym (same_board-true c b k))
+    ∙ (and_parts (has p (thing.Board c)) (has_all p (target_named fields.p3 ++ text_named fields.text)) h).0
 board_there p _ b h k = absurd (true≢false (sym k))
 
 -- nor does it change a stat but one that is there
 stat_there : (p : Plain) (op : Op) (x : StatId) → has_all p (names_of op) ≡ true → changes_stat x op ≡ true → has p (thing.Stat x) ≡ true
 stat_there p (StatRemove y) x h k = ap (λ d. has p (thing.Stat d)) (sym (stat-true y x k)) ∙ (and_parts (has p (thing.Stat y)) true h).0
-stat_there p (SetStat y setting) x h k = ap (λ d. has p (thing.Stat d)) (sym (stat-true y x k)) ∙ (and_parts (has p (thing.Stat y)) (has_all p (stat_names setting)) h).0
+stat_there p (SetStat y setting) x h k =
+    ap (λ d. has p (thing.Stat d)) (sym (stat-true y x k)) ∙ (and_parts (has p (thing.Stat y)) (has_all p (stat_names setting)) h).0
 stat_there p _ x h k = absurd (true≢false (sym k))
 
 -- where no edit is held all made what is there

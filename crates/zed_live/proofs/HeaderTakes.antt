@@ -38,8 +38,11 @@ abbrev pub Puts : {V : Type 0} → Register V → Edit → Option (Written V) �
 Puts r e old new = new ≡ kept_after e.stamp old (r.writes e)
 
 -- so it has the latest write of the edits with this one
-pub put-late : {V : Type 0} (r : Register V) (e : Edit) (low high : List Edit) (old new : Option (Written V)) → IsRising (low ++ e ∷ high) → old ≡ latest_in r (low ++ high) → Puts r e old new → new ≡ latest_in r (low ++ e ∷ high)
-put-late r e low high old new rises was puts = puts ∙ ap (λ o. kept_after e.stamp o (r.writes e)) was ∙ sym (late_write_is_compared r.writes e low high rises)
+pub put-late : {V : Type 0} (r : Register V) (e : Edit) (low high : List Edit) (old new : Option (Written V)) → IsRising (low ++ e ∷ high)
+    → old ≡ latest_in r (low ++ high) → Puts r e old new
+    → new ≡ latest_in r (low ++ e ∷ high)
+put-late r e low high old new rises was puts =
+    puts ∙ ap (λ o. kept_after e.stamp o (r.writes e)) was ∙ sym (late_write_is_compared r.writes e low high rises)
 
 -- a header has all its places
 pub record HasTables (h : LiveHeader) : Type 0 where
@@ -50,14 +53,17 @@ pub record HasTables (h : LiveHeader) : Type 0 where
 -- all registers of the header after an edit
 pub record HeaderPuts (e : Edit) (old new : LiveHeader) : Type 0 where
   pub tables : HasTables new
-  pub numbers : (f : HeaderNumber) → Puts (of_header (header_number f)) e (register (header_number_index f) old.numbers) (register (header_number_index f) new.numbers)
+  pub numbers : (f : HeaderNumber)
+      → Puts (of_header (header_number f)) e (register (header_number_index f) old.numbers) (register (header_number_index f) new.numbers)
   pub keys : (k : KeyColour) → Puts (of_header (key k)) e (register (key_index k) old.keys) (register (key_index k) new.keys)
   pub saved : Puts (of_header saved) e old.saved new.saved
   pub current_board : Puts (of_header current_board) e old.current_board new.current_board
   pub world_name : Puts (of_header world_name) e old.world_name new.world_name
   pub flags : (k : FlagSlot) → Puts (of_header (flag k)) e (register (flag_index k) old.flags) (register (flag_index k) new.flags)
 
-shows-late : (e : Edit) (low high : List Edit) (old new : LiveHeader) → IsRising (low ++ e ∷ high) → HeaderPuts e old new → HeaderShows (low ++ high) old → HeaderShows (low ++ e ∷ high) new
+shows-late : (e : Edit) (low high : List Edit) (old new : LiveHeader) → IsRising (low ++ e ∷ high) → HeaderPuts e old new
+    → HeaderShows (low ++ high) old
+    → HeaderShows (low ++ e ∷ high) new
 shows-late e low high old new rises puts was = record {
   nine = puts.tables.nine;
   seven = puts.tables.seven;
@@ -65,7 +71,8 @@ shows-late e low high old new rises puts was = record {
   numbers = λ f. put-late (of_header (header_number f)) e low high (register (header_number_index f) old.numbers) (register (header_number_index f) new.numbers) rises (was.numbers f) (puts.numbers f);
   keys = λ k. put-late (of_header (key k)) e low high (register (key_index k) old.keys) (register (key_index k) new.keys) rises (was.keys k) (puts.keys k);
   saved = put-late (of_header saved) e low high old.saved new.saved rises was.saved puts.saved;
-  current_board = put-late (of_header current_board) e low high old.current_board new.current_board rises was.current_board puts.current_board;
+  current_board =
+      put-late (of_header current_board) e low high old.current_board new.current_board rises was.current_board puts.current_board;
   world_name = put-late (of_header world_name) e low high old.world_name new.world_name rises was.world_name puts.world_name;
   flags = λ k. put-late (of_header (flag k)) e low high (register (flag_index k) old.flags) (register (flag_index k) new.flags) rises (was.flags k) (puts.flags k);
 }
@@ -83,7 +90,8 @@ set-tables s (header.CurrentBoard b) h t = record { nine = t.nine; seven = t.sev
 set-tables s (header.WorldName n) h t = record { nine = t.nine; seven = t.seven; ten = t.ten }
 set-tables s (header.Flag k n) h t = record { nine = t.nine; seven = t.seven; ten = length-set h.flags (flag_index k) (keep_later (register (flag_index k) h.flags) (written_at s n)) ∙ t.ten }
 
-set-number : (s : Stamp) (setting : HeaderSetting) (h : LiveHeader) → length h.numbers ≡ 9 → (f : HeaderNumber) → Puts (of_header (header_number f)) (by_setting s setting) (register (header_number_index f) h.numbers) (register (header_number_index f) (write_header s setting h).numbers)
+set-number : (s : Stamp) (setting : HeaderSetting) (h : LiveHeader) → length h.numbers ≡ 9 → (f : HeaderNumber)
+    → Puts (of_header (header_number f)) (by_setting s setting) (register (header_number_index f) h.numbers) (register (header_number_index f) (write_header s setting h).numbers)
 set-number s (header.Number g n) h e f = set_register-at s n h.numbers 9 (header_number_index f) (header_number_index g) e (number-within f)
 set-number s (header.Key k b) h e f = refl
 set-number s (header.Saved b) h e f = refl
@@ -91,7 +99,8 @@ set-number s (header.CurrentBoard b) h e f = refl
 set-number s (header.WorldName n) h e f = refl
 set-number s (header.Flag k n) h e f = refl
 
-set-key : (s : Stamp) (setting : HeaderSetting) (h : LiveHeader) → length h.keys ≡ 7 → (k : KeyColour) → Puts (of_header (key k)) (by_setting s setting) (register (key_index k) h.keys) (register (key_index k) (write_header s setting h).keys)
+set-key : (s : Stamp) (setting : HeaderSetting) (h : LiveHeader) → length h.keys ≡ 7 → (k : KeyColour)
+    → Puts (of_header (key k)) (by_setting s setting) (register (key_index k) h.keys) (register (key_index k) (write_header s setting h).keys)
 set-key s (header.Key j b) h e k = set_register-at s b h.keys 7 (key_index k) (key_index j) e (key-within k)
 set-key s (header.Number g n) h e k = refl
 set-key s (header.Saved b) h e k = refl
@@ -99,7 +108,8 @@ set-key s (header.CurrentBoard b) h e k = refl
 set-key s (header.WorldName n) h e k = refl
 set-key s (header.Flag j n) h e k = refl
 
-set-flag : (s : Stamp) (setting : HeaderSetting) (h : LiveHeader) → length h.flags ≡ 10 → (k : FlagSlot) → Puts (of_header (flag k)) (by_setting s setting) (register (flag_index k) h.flags) (register (flag_index k) (write_header s setting h).flags)
+set-flag : (s : Stamp) (setting : HeaderSetting) (h : LiveHeader) → length h.flags ≡ 10 → (k : FlagSlot)
+    → Puts (of_header (flag k)) (by_setting s setting) (register (flag_index k) h.flags) (register (flag_index k) (write_header s setting h).flags)
 set-flag s (header.Flag j n) h e k = set_register-at s n h.flags 10 (flag_index k) (flag_index j) e (flag-within k)
 set-flag s (header.Number g n) h e k = refl
 set-flag s (header.Key j b) h e k = refl
@@ -107,7 +117,8 @@ set-flag s (header.Saved b) h e k = refl
 set-flag s (header.CurrentBoard b) h e k = refl
 set-flag s (header.WorldName n) h e k = refl
 
-set-saved : (s : Stamp) (setting : HeaderSetting) (h : LiveHeader) → Puts (of_header saved) (by_setting s setting) h.saved (write_header s setting h).saved
+set-saved : (s : Stamp) (setting : HeaderSetting) (h : LiveHeader)
+    → Puts (of_header saved) (by_setting s setting) h.saved (write_header s setting h).saved
 set-saved s (header.Number g n) h = refl
 set-saved s (header.Key j b) h = refl
 set-saved s (header.Saved b) h = refl
@@ -115,7 +126,8 @@ set-saved s (header.CurrentBoard b) h = refl
 set-saved s (header.WorldName n) h = refl
 set-saved s (header.Flag j n) h = refl
 
-set-current : (s : Stamp) (setting : HeaderSetting) (h : LiveHeader) → Puts (of_header current_board) (by_setting s setting) h.current_board (write_header s setting h).current_board
+set-current : (s : Stamp) (setting : HeaderSetting) (h : LiveHeader)
+    → Puts (of_header current_board) (by_setting s setting) h.current_board (write_header s setting h).current_board
 set-current s (header.Number g n) h = refl
 set-current s (header.Key j b) h = refl
 set-current s (header.Saved b) h = refl
@@ -123,7 +135,8 @@ set-current s (header.CurrentBoard b) h = refl
 set-current s (header.WorldName n) h = refl
 set-current s (header.Flag j n) h = refl
 
-set-name : (s : Stamp) (setting : HeaderSetting) (h : LiveHeader) → Puts (of_header world_name) (by_setting s setting) h.world_name (write_header s setting h).world_name
+set-name : (s : Stamp) (setting : HeaderSetting) (h : LiveHeader)
+    → Puts (of_header world_name) (by_setting s setting) h.world_name (write_header s setting h).world_name
 set-name s (header.Number g n) h = refl
 set-name s (header.Key j b) h = refl
 set-name s (header.Saved b) h = refl
@@ -131,7 +144,8 @@ set-name s (header.CurrentBoard b) h = refl
 set-name s (header.WorldName n) h = refl
 set-name s (header.Flag j n) h = refl
 
-setting-puts : (s : Stamp) (setting : HeaderSetting) (h : LiveHeader) → HasTables h → HeaderPuts (by_setting s setting) h (write_header s setting h)
+setting-puts : (s : Stamp) (setting : HeaderSetting) (h : LiveHeader) → HasTables h
+    → HeaderPuts (by_setting s setting) h (write_header s setting h)
 setting-puts s setting h t = record {
   tables = set-tables s setting h t;
   numbers = set-number s setting h t.nine;
@@ -148,19 +162,25 @@ abbrev by_world : Stamp → List ℕ → Edit
 by_world s bytes = record { stamp = s; op = Genesis bytes }
 
 -- a field gets the value of the header of the file
-opened-writes : {V : Type 0} (f : Field Header V) (s : Stamp) (bytes : List ℕ) (w : Contents) → world_at bytes ≡ Ok w → (of_header f).writes (by_world s bytes) ≡ Some (f.value (header_of s w.header))
+opened-writes : {V : Type 0} (f : Field Header V) (s : Stamp) (bytes : List ℕ) (w : Contents) → world_at bytes ≡ Ok w
+    → (of_header f).writes (by_world s bytes) ≡ Some (f.value (header_of s w.header))
 opened-writes f s bytes w e = ap (λ r. option_or (option_map f.value (opened_header s r)) (f.set (Genesis bytes))) e
 
 -- nothing is written where the file is none
-unopened-writes : {V : Type 0} (f : Field Header V) (s : Stamp) (bytes : List ℕ) (x : WorldError) → world_at bytes ≡ Err x → f.set (Genesis bytes) ≡ None → (of_header f).writes (by_world s bytes) ≡ None
+unopened-writes : {V : Type 0} (f : Field Header V) (s : Stamp) (bytes : List ℕ) (x : WorldError) → world_at bytes ≡ Err x
+    → f.set (Genesis bytes) ≡ None
+    → (of_header f).writes (by_world s bytes) ≡ None
 unopened-writes f s bytes x e none = ap (λ r. option_or (option_map f.value (opened_header s r)) (f.set (Genesis bytes))) e ∙ none
 
 module _ (s : Stamp) (bytes : List ℕ) (h : LiveHeader) (t : HasTables h) where
   -- a field is put in where its register keeps the later of what it had and the header's value
-  puts-value : {V : Type 0} (f : Field Header V) (w : Contents) (old new : Option (Written V)) → world_at bytes ≡ Ok w → new ≡ keep_later old (written_at s (f.value (header_of s w.header))) → Puts (of_header f) (by_world s bytes) old new
+  puts-value : {V : Type 0} (f : Field Header V) (w : Contents) (old new : Option (Written V)) → world_at bytes ≡ Ok w
+      → new ≡ keep_later old (written_at s (f.value (header_of s w.header)))
+      → Puts (of_header f) (by_world s bytes) old new
   puts-value f w old new e kept = kept ∙ ap (λ o. kept_after s old o) (sym (opened-writes f s bytes w e))
 
-  world-puts : (w : Contents) → world_at bytes ≡ Ok w → length w.header.keys ≡ 7 → length w.header.flags ≡ 10 → HeaderPuts (by_world s bytes) h (write_all s (header_of s w.header) h)
+  world-puts : (w : Contents) → world_at bytes ≡ Ok w → length w.header.keys ≡ 7 → length w.header.flags ≡ 10
+      → HeaderPuts (by_world s bytes) h (write_all s (header_of s w.header) h)
   world-puts w e seven ten =
       let new = header_of s w.header in
       let nine : length new.numbers ≡ 9 = refl in
@@ -207,10 +227,12 @@ module _ (s : Stamp) (bytes : List ℕ) (h : LiveHeader) (t : HasTables h) where
 
 -- ---- every edit
 
-op-puts : ReadIsNormal → (s : Stamp) (op : Op) (h : LiveHeader) → HasTables h → HeaderPuts (record { stamp = s; op = op }) h (header_after s op h)
+op-puts : ReadIsNormal → (s : Stamp) (op : Op) (h : LiveHeader) → HasTables h
+    → HeaderPuts (record { stamp = s; op = op }) h (header_after s op h)
 op-puts normal s (Genesis bytes) h t = genesis-puts s bytes h t normal
 op-puts normal s (SetHeader setting) h t = setting-puts s setting h t
-op-puts normal s op h t = record { tables = t; numbers = λ f. refl; keys = λ k. refl; saved = refl; current_board = refl; world_name = refl; flags = λ k. refl }
+op-puts normal s op h t =
+    record { tables = t; numbers = λ f. refl; keys = λ k. refl; saved = refl; current_board = refl; world_name = refl; flags = λ k. refl }
 
 pub header_takes : ReadIsNormal → HeaderTakes
 header_takes normal e low high h rises was =

@@ -50,7 +50,9 @@ differ-right (x ∷ xs) ys d = differ-right xs ys d.1
 rest : (b : Board) (bs : List Board) → OwnNames (b ∷ bs) → OwnNames bs
 rest b bs own = record { boards = own.boards.1; stats = differ-right b.stats (stats_of bs) own.stats }
 
-none-apart : (x : StatId) (z : Stat) (zs ys : List Stat) → z.id ≡ x → AllByRecursion (λ (y : Stat). same_name z.id.name y.id.name ≡ false) (zs ++ ys) → list_any (λ y. same_stat y.id x) ys ≡ false
+none-apart : (x : StatId) (z : Stat) (zs ys : List Stat) → z.id ≡ x
+    → AllByRecursion (λ (y : Stat). same_name z.id.name y.id.name ≡ false) (zs ++ ys)
+    → list_any (λ y. same_stat y.id x) ys ≡ false
 none-apart x z (w ∷ zs) ys is a = none-apart x z zs ys is a.1
 none-apart x z [] [] is a = refl
 none-apart x z [] (y ∷ ys) is a =
@@ -66,11 +68,14 @@ none-apart x z [] (y ∷ ys) is a =
         go true v = absurd (true≢false (sym (same_name-itself n.name) ∙ ap (λ (i : StatId). same_stat i n) (stat-true n m v) ∙ h))
 
 -- a stat among the first is not among the others
-alone : (x : StatId) (xs ys : List Stat) → NamesDiffer (λ (z : Stat). z.id.name) (xs ++ ys) → list_any (λ z. same_stat z.id x) xs ≡ true → list_any (λ z. same_stat z.id x) ys ≡ false
+alone : (x : StatId) (xs ys : List Stat) → NamesDiffer (λ (z : Stat). z.id.name) (xs ++ ys) → list_any (λ z. same_stat z.id x) xs ≡ true
+    → list_any (λ z. same_stat z.id x) ys ≡ false
 alone x [] ys d h = absurd (true≢false (sym h))
 alone x (z ∷ xs) ys d h = go (same_stat z.id x) refl h (λ k. alone x xs ys d.1 k)
   where
-    go : (v : Bool) → same_stat z.id x ≡ v → (v || list_any (λ z. same_stat z.id x) xs) ≡ true → (list_any (λ z. same_stat z.id x) xs ≡ true → list_any (λ z. same_stat z.id x) ys ≡ false) → list_any (λ z. same_stat z.id x) ys ≡ false
+    go : (v : Bool) → same_stat z.id x ≡ v → (v || list_any (λ z. same_stat z.id x) xs) ≡ true
+        → (list_any (λ z. same_stat z.id x) xs ≡ true → list_any (λ z. same_stat z.id x) ys ≡ false)
+        → list_any (λ z. same_stat z.id x) ys ≡ false
     go true v k more = none-apart x z xs ys (stat-true z.id x v) d.0
     go false v k more = more k
 
@@ -85,11 +90,15 @@ behind : (x : StatId) (xs ys : List Stat) (st : Stat) → find_stat x xs ≡ Non
 behind x xs ys st n h = find-append (named x) xs ys ∙ ap (λ o. option_or o (find_stat x ys)) n ∙ h
 
 -- a stat of the board of a name is on that board alone
-pub on-it : (b : BoardId) (x : StatId) (bs : List Board) (made : Board) (st : Stat) → OwnNames bs → find_board b bs ≡ Some made → find_stat x made.stats ≡ Some st → (find (is_on x) bs ≡ Some made) × (find_stat x (stats_of bs) ≡ Some st)
+pub on-it : (b : BoardId) (x : StatId) (bs : List Board) (made : Board) (st : Stat) → OwnNames bs → find_board b bs ≡ Some made
+    → find_stat x made.stats ≡ Some st
+    → (find (is_on x) bs ≡ Some made) × (find_stat x (stats_of bs) ≡ Some st)
 on-it b x [] made st own h k = absurd (cc)
 on-it b x (c ∷ bs) made st own h k = go (same_board c.id b) h (λ m. on-it b x bs made st (rest c bs own) m k)
   where
-    go : (v : Bool) → cond v (Some c) (find_board b bs) ≡ Some made → (find_board b bs ≡ Some made → (find (is_on x) bs ≡ Some made) × (find_stat x (stats_of bs) ≡ Some st)) → (find (is_on x) (c ∷ bs) ≡ Some made) × (find_stat x (c.stats ++ stats_of bs) ≡ Some st)
+    go : (v : Bool) → cond v (Some c) (find_board b bs) ≡ Some made
+        → (find_board b bs ≡ Some made → (find (is_on x) bs ≡ Some made) × (find_stat x (stats_of bs) ≡ Some st))
+        → (find (is_on x) (c ∷ bs) ≡ Some made) × (find_stat x (c.stats ++ stats_of bs) ≡ Some st)
     go true m more =
         let i : c ≡ made = some_is c made m in
         let t : find_stat x c.stats ≡ Some st = ap (λ (d : Board). find_stat x d.stats) i ∙ k in
@@ -106,20 +115,23 @@ on-it b x (c ∷ bs) made st own h k = go (same_board c.id b) h (λ m. on-it b x
         beside true v t = absurd (true≢false (sym t ∙ alone x c.stats (stats_of bs) own.stats v))
 
 -- a board that has a stat is the one of its name
-pub own-board : (x : StatId) (bs : List Board) (d : Board) → OwnNames bs → find (is_on x) bs ≡ Some d → (find_board d.id bs ≡ Some d) × (is_on x d ≡ true)
+pub own-board : (x : StatId) (bs : List Board) (d : Board) → OwnNames bs → find (is_on x) bs ≡ Some d
+    → (find_board d.id bs ≡ Some d) × (is_on x d ≡ true)
 own-board x bs d own h = (its-name x bs d own h, found-passes (is_on x) bs d h)
   where
     its-name : (x : StatId) (bs : List Board) (d : Board) → OwnNames bs → find (is_on x) bs ≡ Some d → find_board d.id bs ≡ Some d
     its-name x [] d own h = absurd (cc)
     its-name x (c ∷ bs) d own h = go (is_on x c) h (λ m. its-name x bs d (rest c bs own) m)
       where
-        go : (v : Bool) → cond v (Some c) (find (is_on x) bs) ≡ Some d → (find (is_on x) bs ≡ Some d → find_board d.id bs ≡ Some d) → find_board d.id (c ∷ bs) ≡ Some d
+        go : (v : Bool) → cond v (Some c) (find (is_on x) bs) ≡ Some d → (find (is_on x) bs ≡ Some d → find_board d.id bs ≡ Some d)
+            → find_board d.id (c ∷ bs) ≡ Some d
         go true m more =
             let i : c ≡ d = some_is c d m in
             let k : same_board c.id d.id ≡ true = ap (λ (a : Board). same_board a.id d.id) i ∙ same_name-itself d.id.name in
             rw k m
         go false m more =
-            let k : same_board c.id d.id ≡ false = found-holds (λ (y : Board). same_name c.id.name y.id.name ≡ false) (is_on x) bs own.boards.0 d m in
+            let k : same_board c.id d.id ≡ false =
+            found-holds (λ (y : Board). same_name c.id.name y.id.name ≡ false) (is_on x) bs own.boards.0 d m in
             rw k (more m)
 
 -- ---- where a stat is among boards
@@ -128,7 +140,8 @@ abbrev pub home_in : StatId → List Board → Option BoardId
 home_in x bs = option_map id_of (find (is_on x) bs)
 
 -- it is on the board of a name where that has it
-pub home-on : (b : BoardId) (x : StatId) (bs : List Board) (made : Board) → OwnNames bs → find_board b bs ≡ Some made → is_board b (home_in x bs) ≡ is_some (find_stat x made.stats)
+pub home-on : (b : BoardId) (x : StatId) (bs : List Board) (made : Board) → OwnNames bs → find_board b bs ≡ Some made
+    → is_board b (home_in x bs) ≡ is_some (find_stat x made.stats)
 home-on b x bs made own h = go (find_stat x made.stats) refl
   where
     its : same_board made.id b ≡ true
@@ -189,13 +202,16 @@ abbrev edit_of : Stamp → Op → Edit
 edit_of s op = record { stamp = s; op = op }
 
 -- an edit that makes a board puts on it what it makes it with
-pub puts-made : (b : BoardId) (x : StatId) (s : Stamp) (op : Op) (made : Board) → find_board b (made_boards s op) ≡ Some made → puts x b (edit_of s op) ≡ is_some (find_stat x made.stats)
+pub puts-made : (b : BoardId) (x : StatId) (s : Stamp) (op : Op) (made : Board) → find_board b (made_boards s op) ≡ Some made
+    → puts x b (edit_of s op) ≡ is_some (find_stat x made.stats)
 puts-made b x s (StatAdd c fields) made h = absurd (cc)
 puts-made b x s (Genesis bytes) made h = home-on b x (made_boards s (Genesis bytes)) made (made-own s (Genesis bytes)) h
 puts-made b x s (BoardAdd name) made h = home-on b x (made_boards s (BoardAdd name)) made (made-own s (BoardAdd name)) h
 puts-made b x s _ made h = absurd (cc)
 
-pub finds-made : (b : BoardId) (x : StatId) (s : Stamp) (op : Op) (made : Board) (st : Stat) → find_board b (made_boards s op) ≡ Some made → find_stat x made.stats ≡ Some st → find_stat x (made_stats s op) ≡ Some st
+pub finds-made : (b : BoardId) (x : StatId) (s : Stamp) (op : Op) (made : Board) (st : Stat) → find_board b (made_boards s op) ≡ Some made
+    → find_stat x made.stats ≡ Some st
+    → find_stat x (made_stats s op) ≡ Some st
 finds-made b x s (StatAdd c fields) made st h k = absurd (cc)
 finds-made b x s (Genesis bytes) made st h k = (on-it b x (made_boards s (Genesis bytes)) made st (made-own s (Genesis bytes)) h k).1
 finds-made b x s (BoardAdd name) made st h k = (on-it b x (made_boards s (BoardAdd name)) made st (made-own s (BoardAdd name)) h k).1
@@ -210,13 +226,15 @@ added-puts b c x y h = go (same_stat y x)
     go false = refl
 
 -- one that neither makes a board nor is of it puts nothing on it
-op-puts-none : (b : BoardId) (x : StatId) (s : Stamp) (op : Op) → find_board b (made_boards s op) ≡ None → is_of b op ≡ false → puts x b (edit_of s op) ≡ false
+op-puts-none : (b : BoardId) (x : StatId) (s : Stamp) (op : Op) → find_board b (made_boards s op) ≡ None → is_of b op ≡ false
+    → puts x b (edit_of s op) ≡ false
 op-puts-none b x s (StatAdd c fields) h k = added-puts b c x (stat_of s 0) k
 op-puts-none b x s (Genesis bytes) h k = home-off b x (made_boards s (Genesis bytes)) (made-own s (Genesis bytes)) h
 op-puts-none b x s (BoardAdd name) h k = home-off b x (made_boards s (BoardAdd name)) (made-own s (BoardAdd name)) h
 op-puts-none b x s _ h k = refl
 
-pub puts-none : (b : BoardId) (x : StatId) (e : Edit) → find_board b (made_boards e.stamp e.op) ≡ None → is_of b e.op ≡ false → puts x b e ≡ false
+pub puts-none : (b : BoardId) (x : StatId) (e : Edit) → find_board b (made_boards e.stamp e.op) ≡ None → is_of b e.op ≡ false
+    → puts x b e ≡ false
 puts-none b x e h k = op-puts-none b x e.stamp e.op h k
 
 -- what is put on a board is made
@@ -240,7 +258,8 @@ op-makes-puts x s (StatAdd c fields) h = (c, go (same_stat (stat_of s 0) x) h)
     go : (v : Bool) → (v || false) ≡ true → is_board c (cond v (Some c) None) ≡ true
     go true k = same_name-itself c.name
     go false k = absurd (true≢false (sym k))
-op-makes-puts x s op h = go (find (is_on x) (made_boards s op)) (find-any (is_on x) (made_boards s op) ∙ sym (any-stat (named x) (made_boards s op)) ∙ h)
+op-makes-puts x s op h =
+    go (find (is_on x) (made_boards s op)) (find-any (is_on x) (made_boards s op) ∙ sym (any-stat (named x) (made_boards s op)) ∙ h)
   where
     go : (o : Option Board) → is_some o ≡ true → (b : BoardId) × (is_board b (option_map id_of o) ≡ true)
     go None k = absurd (true≢false (sym k))

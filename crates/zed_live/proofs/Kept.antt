@@ -61,7 +61,8 @@ homes_total = then_total (on_total (λ (w : StatId × BoardId). w.0) stats_total
 
 -- after a set took one more
 abbrev pub TakesOne : StatId → BoardId → Homes → Homes → Type 0
-TakesOne x b old new = (q : StatId × BoardId) → list_any (is_at (home_cmp q)) new ≡ cond (is_at (home_cmp (x, b)) q) true (list_any (is_at (home_cmp q)) old)
+TakesOne x b old new =
+    (q : StatId × BoardId) → list_any (is_at (home_cmp q)) new ≡ cond (is_at (home_cmp (x, b)) q) true (list_any (is_at (home_cmp q)) old)
 
 pub stay_with : (x : StatId) (b : BoardId) (old new : Homes) → TakesOne x b old new → StayListed old new
 stay_with x b old new h = record { each = λ y c l. stays home_cmp (x, b) old new h (y, c) l }
@@ -71,10 +72,13 @@ now_listed x b old new h = is_put home_cmp (x, b) old new homes_total h
 
 -- what stays listed is on its board
 pub still_on : (b : BoardId) (xs : List Stat) (old new : Homes) → StayListed old new → AreOn b xs old → AreOn b xs new
-still_on b xs old new stay a = all_weaker (λ x. is_listed x.id b old ≡ true) (λ x. is_listed x.id b new ≡ true) xs (λ x h. stay.each x.id b h) a
+still_on b xs old new stay a =
+    all_weaker (λ x. is_listed x.id b old ≡ true) (λ x. is_listed x.id b new ≡ true) xs (λ x h. stay.each x.id b h) a
 
 -- one place back in a list, where what stands there has a property and what comes behind has it
-pub one_back : {X : Type 0} (P : X → Type 0) (xs : List X) (i : ℕ) (d : X) → i < length xs → P (get_or xs i d) → AllByRecursion P (drop (i + 1) xs) → AllByRecursion P (drop i xs)
+pub one_back : {X : Type 0} (P : X → Type 0) (xs : List X) (i : ℕ) (d : X) → i < length xs → P (get_or xs i d)
+    → AllByRecursion P (drop (i + 1) xs)
+    → AllByRecursion P (drop i xs)
 one_back P xs i d h p a = subst (AllByRecursion P) (sym (drop_more xs i d h)) (p, a)
 
 -- ---- the boards that a stat is listed with
@@ -114,7 +118,8 @@ from_first b =
 abbrev pub boards_here : StatId → Homes → List BoardId
 boards_here x ws = run same_stat x ws
 
-pub from_range : (x : StatId) (homes : Homes) → IsStrictlySortedBy home_cmp homes → boards_here x (filter (range_contains home_cmp (Included (x, first_board)) Unbounded) homes) ≡ boards_with x homes
+pub from_range : (x : StatId) (homes : Homes) → IsStrictlySortedBy home_cmp homes
+    → boards_here x (filter (range_contains home_cmp (Included (x, first_board)) Unbounded) homes) ≡ boards_with x homes
 from_range x homes up = run_listed stat_cmp board_cmp same_stat stats_total told first_board from_first x homes up
 
 pub sorted_boards : (x : StatId) (homes : Homes) → IsStrictlySortedBy home_cmp homes → IsStrictlySortedBy board_cmp (boards_with x homes)
@@ -122,7 +127,8 @@ sorted_boards x homes up = sorted_listed stat_cmp board_cmp same_stat stats_tota
 
 -- one board is in order
 sorted_one : (x : StatId) (b : BoardId) (homes : Homes) → boards_with x homes ≡ b ∷ [] → IsStrictlySortedBy board_cmp (boards_with x homes)
-sorted_one x b homes one = subst (IsStrictlySortedBy board_cmp) (sym one) (sorted_cons board_cmp true b [] (λ h. tt) (sorted_none board_cmp))
+sorted_one x b homes one =
+    subst (IsStrictlySortedBy board_cmp) (sym one) (sorted_cons board_cmp true b [] (λ h. tt) (sorted_none board_cmp))
 
 -- the one board that was found so far, if one was
 abbrev pub found_one : Option BoardId → List BoardId
@@ -138,20 +144,25 @@ among x b homes = any_listed stat_cmp board_cmp same_stat stats_total told x b h
 abbrev pub is_on : StatId → Boards → BoardId → Bool
 is_on x ys b = option_map_or (λ z. has x z.stats) (board_in b ys) false
 
-in-listed : (x : StatId) (b : BoardId) (homes : Homes) (ys : Boards) → AllByRecursion (StatsAreListed homes) ys → is_on x ys b ≡ true → is_listed x b homes ≡ true
+in-listed : (x : StatId) (b : BoardId) (homes : Homes) (ys : Boards) → AllByRecursion (StatsAreListed homes) ys → is_on x ys b ≡ true
+    → is_listed x b homes ≡ true
 in-listed x b homes [] a h = absurd (true≢false (sym h))
 in-listed x b homes (y ∷ ys) a h = go (same_board b y.0) refl h (in-listed x b homes ys a.1)
   where
-    go : (v : Bool) → same_board b y.0 ≡ v → option_map_or (λ z. has x z.stats) (cond v (Some y.1) (board_in b ys)) false ≡ true → (is_on x ys b ≡ true → is_listed x b homes ≡ true) → is_listed x b homes ≡ true
+    go : (v : Bool) → same_board b y.0 ≡ v → option_map_or (λ z. has x z.stats) (cond v (Some y.1) (board_in b ys)) false ≡ true
+        → (is_on x ys b ≡ true → is_listed x b homes ≡ true)
+        → is_listed x b homes ≡ true
     go true v h more = subst (λ c. is_listed x c homes ≡ true) (sym (same_board-true b y.0 v)) (a.0 x h)
     go false v h more = more h
 
-pub found_home : (x : StatId) (homes : Homes) (ys : Boards) → IsStrictlySortedBy board_cmp (boards_with x homes) → AreKept ys homes → find (is_on x ys) (boards_with x homes) ≡ home_in x ys
+pub found_home : (x : StatId) (homes : Homes) (ys : Boards) → IsStrictlySortedBy board_cmp (boards_with x homes) → AreKept ys homes
+    → find (is_on x ys) (boards_with x homes) ≡ home_in x ys
 found_home x homes ys up kept =
     first_found board_name only_board (λ z. has x z.stats) (boards_with x homes) ys up kept.rise (λ b h. among x b homes ∙ in-listed x b homes ys kept.listed h)
 
 -- where a stat is listed with one board alone, it is on that or on none
-pub only_home : (x : StatId) (b : BoardId) (homes : Homes) (ys : Boards) → boards_with x homes ≡ b ∷ [] → AreKept ys homes → cond (is_on x ys b) (Some b) None ≡ home_in x ys
+pub only_home : (x : StatId) (b : BoardId) (homes : Homes) (ys : Boards) → boards_with x homes ≡ b ∷ [] → AreKept ys homes
+    → cond (is_on x ys b) (Some b) None ≡ home_in x ys
 only_home x b homes ys one kept = ap (find (is_on x ys)) (sym one) ∙ found_home x homes ys (sorted_one x b homes one) kept
 
 -- ---- an edit of a stat
@@ -173,19 +184,22 @@ unchanged : (x y : StatId) (f : LiveStat → LiveStat) (ts : Entries) → same_s
 unchanged x y f ts h k = sym (change-none stat_name y f ts (ap (λ (z : StatId). has z ts) (stat-true y x h) ∙ k))
 
 -- a board without the stat stays as it is
-same-without : (x : StatId) (s : Stamp) (op : Op) (z : LiveBoard) → changes_stat x op ≡ true → has x z.stats ≡ false → stat_changed s op z ≡ z
+same-without : (x : StatId) (s : Stamp) (op : Op) (z : LiveBoard) → changes_stat x op ≡ true → has x z.stats ≡ false
+    → stat_changed s op z ≡ z
 same-without x s (StatRemove y) z h k = ap (λ ts. record z { stats = ts }) (unchanged x y remove z.stats h k)
 same-without x s (SetStat y setting) z h k = ap (λ ts. record z { stats = ts }) (unchanged x y (write s setting) z.stats h k)
 same-without x s _ z h k = absurd (true≢false (sym h))
 
 -- all boards are changed once those that the stat is listed with are
-pub all_passed : (x : StatId) (s : Stamp) (op : Op) (homes : Homes) (ys : Boards) → IsStrictlySortedBy board_cmp (boards_with x homes) → AreKept ys homes → changes_stat x op ≡ true
+pub all_passed : (x : StatId) (s : Stamp) (op : Op) (homes : Homes) (ys : Boards) → IsStrictlySortedBy board_cmp (boards_with x homes)
+    → AreKept ys homes → changes_stat x op ≡ true
     → change_each board_name (stat_changed s op) (boards_with x homes) ys ≡ change_all (stat_changed s op) ys
 all_passed x s op homes ys up kept h =
     all_changed board_name only_board (stat_changed s op) (boards_with x homes) ys up kept.rise
     (all_weaker (StatsAreListed homes) (λ y. is_among board_name y.0 (boards_with x homes) ≡ false → stat_changed s op y.1 ≡ y.1) ys (λ y l n. others y l n) kept.listed)
   where
-    others : (y : BoardId × LiveBoard) → StatsAreListed homes y → is_among board_name y.0 (boards_with x homes) ≡ false → stat_changed s op y.1 ≡ y.1
+    others : (y : BoardId × LiveBoard) → StatsAreListed homes y → is_among board_name y.0 (boards_with x homes) ≡ false
+        → stat_changed s op y.1 ≡ y.1
     others y l n = go (has x (y.1).stats) refl
       where
         go : (v : Bool) → has x (y.1).stats ≡ v → stat_changed s op y.1 ≡ y.1
@@ -193,12 +207,14 @@ all_passed x s op homes ys up kept h =
         go false v = same-without x s op y.1 h v
 
 -- where it is listed with one alone, once that one is
-pub one_passed : (x : StatId) (b : BoardId) (s : Stamp) (op : Op) (homes : Homes) (ys : Boards) → boards_with x homes ≡ b ∷ [] → AreKept ys homes → changes_stat x op ≡ true
+pub one_passed : (x : StatId) (b : BoardId) (s : Stamp) (op : Op) (homes : Homes) (ys : Boards) → boards_with x homes ≡ b ∷ []
+    → AreKept ys homes → changes_stat x op ≡ true
     → change b (stat_changed s op) ys ≡ change_all (stat_changed s op) ys
 one_passed x b s op homes ys one kept h =
     ap (λ bs. change_each board_name (stat_changed s op) bs ys) (sym one) ∙ all_passed x s op homes ys (sorted_one x b homes one) kept h
 
-listed-all : (s : Stamp) (op : Op) (homes : Homes) (ys : Boards) → AllByRecursion (StatsAreListed homes) ys → AllByRecursion (StatsAreListed homes) (change_all (stat_changed s op) ys)
+listed-all : (s : Stamp) (op : Op) (homes : Homes) (ys : Boards) → AllByRecursion (StatsAreListed homes) ys
+    → AllByRecursion (StatsAreListed homes) (change_all (stat_changed s op) ys)
 listed-all s op homes [] a = tt
 listed-all s op homes (y ∷ ys) a = (λ x h. a.0 x (sym (has-passed x s op y.1) ∙ h), listed-all s op homes ys a.1)
 
@@ -212,7 +228,9 @@ kept_more ys homes more stay kept = record {
 }
 
 -- where an edit of a stat was passed
-pub kept_passed : (s : Stamp) (op : Op) (homes : Homes) (ys zs : Boards) → zs ≡ change_all (stat_changed s op) ys → IsSorted board_cmp (keys_of zs) → AreKept ys homes → AreKept zs homes
+pub kept_passed : (s : Stamp) (op : Op) (homes : Homes) (ys zs : Boards) → zs ≡ change_all (stat_changed s op) ys
+    → IsSorted board_cmp (keys_of zs) → AreKept ys homes
+    → AreKept zs homes
 kept_passed s op homes ys zs e sorted kept = record {
   sorted = sorted;
   rise = subst (NamesRise (λ y. (y.0).name)) (sym e) (rise-change_all (stat_changed s op) ys kept.rise);
@@ -228,7 +246,8 @@ when-some true z h = refl
 when-some false z h = absurd (true≢false (sym h))
 
 -- what stands on a board after an edit of it stood there, or is added
-has-after : (x : StatId) (s : Stamp) (op : Op) (z : LiveBoard) → has x (board_after s op z).stats ≡ true → (has x z.stats ≡ true) ⊎ (adds_stat x s op ≡ true)
+has-after : (x : StatId) (s : Stamp) (op : Op) (z : LiveBoard) → has x (board_after s op z).stats ≡ true
+    → (has x z.stats ≡ true) ⊎ (adds_stat x s op ≡ true)
 has-after x s (StatAdd b fields) z h =
     let made = plain_stat (stat_of s 0) false fields in
     ⊎_elim (λ k. inl k) (λ k. inr (when-some (same_stat x (stat_of s 0)) (as_live made) k))
@@ -240,12 +259,15 @@ has-after x s (SetBoard b setting) z h = inl h
 has-after x s (SetCells b cells tile) z h = inl h
 has-after x s _ z h = inl h
 
-listed-change : (b : BoardId) (s : Stamp) (op : Op) (homes : Homes) → IsAddedOn b s op homes → (ys : Boards) → AllByRecursion (StatsAreListed homes) ys → AllByRecursion (StatsAreListed homes) (change b (board_after s op) ys)
+listed-change : (b : BoardId) (s : Stamp) (op : Op) (homes : Homes) → IsAddedOn b s op homes → (ys : Boards)
+    → AllByRecursion (StatsAreListed homes) ys
+    → AllByRecursion (StatsAreListed homes) (change b (board_after s op) ys)
 listed-change b s op homes on [] a = tt
 listed-change b s op homes on (y ∷ ys) a = go (same_board b y.0) refl (listed-change b s op homes on ys a.1)
   where
     here : same_board b y.0 ≡ true → StatsAreListed homes (y.0, board_after s op y.1)
-    here v x h = ⊎_elim (λ k. a.0 x k) (λ k. subst (λ c. is_listed x c homes ≡ true) (same_board-true b y.0 v) (on x k)) (has-after x s op y.1 h)
+    here v x h =
+        ⊎_elim (λ k. a.0 x k) (λ k. subst (λ c. is_listed x c homes ≡ true) (same_board-true b y.0 v) (on x k)) (has-after x s op y.1 h)
 
     go : (v : Bool) → same_board b y.0 ≡ v → AllByRecursion (StatsAreListed homes) (change b (board_after s op) ys)
         → AllByRecursion (StatsAreListed homes) (cond v ((y.0, board_after s op y.1) ∷ ys) (y ∷ change b (board_after s op) ys))
@@ -253,7 +275,9 @@ listed-change b s op homes on (y ∷ ys) a = go (same_board b y.0) refl (listed-
     go false v more = (a.0, more)
 
 -- where an edit of a board was put in
-pub kept_changed : (b : BoardId) (s : Stamp) (op : Op) (homes : Homes) (ys zs : Boards) → zs ≡ change b (board_after s op) ys → keys_of zs ≡ keys_of ys → IsAddedOn b s op homes → AreKept ys homes → AreKept zs homes
+pub kept_changed : (b : BoardId) (s : Stamp) (op : Op) (homes : Homes) (ys zs : Boards) → zs ≡ change b (board_after s op) ys
+    → keys_of zs ≡ keys_of ys → IsAddedOn b s op homes → AreKept ys homes
+    → AreKept zs homes
 kept_changed b s op homes ys zs e names on kept = record {
   sorted = subst (IsSorted board_cmp) (sym names) kept.sorted;
   rise = subst (NamesRise (λ y. (y.0).name)) (sym e) (rise-change board_name only_board b (board_after s op) ys kept.rise);
@@ -261,14 +285,16 @@ kept_changed b s op homes ys zs e names on kept = record {
 }
 
 -- where it was put in, or refused
-pub kept_either : {A E : Type 0} (r : Result A E) (b : BoardId) (s : Stamp) (op : Op) (homes : Homes) (ys zs : Boards) → OnOk r (zs ≡ change b (board_after s op) ys) → OnErr r (zs ≡ ys) → keys_of zs ≡ keys_of ys → IsAddedOn b s op homes → AreKept ys homes
+pub kept_either : {A E : Type 0} (r : Result A E) (b : BoardId) (s : Stamp) (op : Op) (homes : Homes) (ys zs : Boards)
+    → OnOk r (zs ≡ change b (board_after s op) ys) → OnErr r (zs ≡ ys) → keys_of zs ≡ keys_of ys → IsAddedOn b s op homes → AreKept ys homes
     → AreKept zs homes
 kept_either (Ok x) b s op homes ys zs e n names on kept = kept_changed b s op homes ys zs e names on kept
 kept_either (Err x) b s op homes ys zs o e names on kept = subst (λ ws. AreKept ws homes) (sym e) kept
 
 -- ---- boards that are made
 
-all-put : (P : BoardId × LiveBoard → Type 0) (b : BoardId) (z : LiveBoard) (ys : Boards) → P (b, z) → AllByRecursion P ys → AllByRecursion P (put board_name b z ys)
+all-put : (P : BoardId × LiveBoard → Type 0) (b : BoardId) (z : LiveBoard) (ys : Boards) → P (b, z) → AllByRecursion P ys
+    → AllByRecursion P (put board_name b z ys)
 all-put P b z [] p a = (p, tt)
 all-put P b z (y ∷ ys) p a = go (is_earlier b.name (y.0).name) (all-put P b z ys p a.1)
   where
@@ -276,22 +302,27 @@ all-put P b z (y ∷ ys) p a = go (is_earlier b.name (y.0).name) (all-put P b z 
     go true more = (p, a)
     go false more = (a.0, more)
 
-all-add : (P : BoardId × LiveBoard → Type 0) (b : BoardId) (z : LiveBoard) (ys : Boards) → P (b, z) → AllByRecursion P ys → AllByRecursion P (add board_name b z ys)
+all-add : (P : BoardId × LiveBoard → Type 0) (b : BoardId) (z : LiveBoard) (ys : Boards) → P (b, z) → AllByRecursion P ys
+    → AllByRecursion P (add board_name b z ys)
 all-add P b z ys p a = go (is_some (board_in b ys))
   where
     go : (v : Bool) → AllByRecursion P (cond v ys (put board_name b z ys))
     go true = a
     go false = all-put P b z ys p a
 
-all-add_all : (P : BoardId × LiveBoard → Type 0) (xs ys : Boards) → AllByRecursion P xs → AllByRecursion P ys → AllByRecursion P (add_all xs ys)
+all-add_all : (P : BoardId × LiveBoard → Type 0) (xs ys : Boards) → AllByRecursion P xs → AllByRecursion P ys
+    → AllByRecursion P (add_all xs ys)
 all-add_all P [] ys h a = a
 all-add_all P (x ∷ xs) ys h a = all-add_all P xs (add board_name x.0 x.1 ys) h.1 (all-add P x.0 x.1 ys h.0 a)
 
-on-made : (x : StatId) (b : BoardId) (xs : List Stat) (homes : Homes) → AreOn b xs homes → is_some (find_stat x xs) ≡ true → is_listed x b homes ≡ true
+on-made : (x : StatId) (b : BoardId) (xs : List Stat) (homes : Homes) → AreOn b xs homes → is_some (find_stat x xs) ≡ true
+    → is_listed x b homes ≡ true
 on-made x b [] homes a h = absurd (true≢false (sym h))
 on-made x b (z ∷ xs) homes a h = go (same_stat z.id x) refl h (on-made x b xs homes a.1)
   where
-    go : (v : Bool) → same_stat z.id x ≡ v → is_some (cond v (Some z) (find_stat x xs)) ≡ true → (is_some (find_stat x xs) ≡ true → is_listed x b homes ≡ true) → is_listed x b homes ≡ true
+    go : (v : Bool) → same_stat z.id x ≡ v → is_some (cond v (Some z) (find_stat x xs)) ≡ true
+        → (is_some (find_stat x xs) ≡ true → is_listed x b homes ≡ true)
+        → is_listed x b homes ≡ true
     go true v h more = subst (λ c. is_listed c b homes ≡ true) (stat-true z.id x v) a.0
     go false v h more = more h
 
@@ -301,7 +332,9 @@ made-listed s (b ∷ bs) homes a =
     ((λ x h. on-made x b.id b.stats homes a.0 (sym (ap is_some (in-add_each x b.stats []) ∙ is_some-map as_live (find_stat x b.stats)) ∙ h)), made-listed s bs homes a.1)
 
 -- where boards were added
-pub kept_made : (s : Stamp) (bs : List Board) (homes : Homes) (ys zs : Boards) → zs ≡ add_all (all_as_made s bs) ys → IsSorted board_cmp (keys_of zs) → AreMadeOn bs homes → AreKept ys homes → AreKept zs homes
+pub kept_made : (s : Stamp) (bs : List Board) (homes : Homes) (ys zs : Boards) → zs ≡ add_all (all_as_made s bs) ys
+    → IsSorted board_cmp (keys_of zs) → AreMadeOn bs homes → AreKept ys homes
+    → AreKept zs homes
 kept_made s bs homes ys zs e sorted on kept = record {
   sorted = sorted;
   rise = subst (NamesRise (λ y. (y.0).name)) (sym e) (rise-add_all board_name only_board (all_as_made s bs) ys kept.rise);

@@ -90,7 +90,8 @@ module _ {K : Type 0} (name : K → Name) (only : IsOnlyName name) where
       none false = refl
   any_filter p k (c ∷ ks) = go (order name k c) refl (p c) refl (p k) refl (any_filter p k ks)
     where
-      go : (r : Ordering) → order name k c ≡ r → (u : Bool) → p c ≡ u → (v : Bool) → p k ≡ v → is_among name k (filter p ks) ≡ (v && is_among name k ks)
+      go : (r : Ordering) → order name k c ≡ r → (u : Bool) → p c ≡ u → (v : Bool) → p k ≡ v
+          → is_among name k (filter p ks) ≡ (v && is_among name k ks)
           → is_among name k (cond u (c ∷ filter p ks) (filter p ks)) ≡ (v && (is_eq r || is_among name k ks))
       go Less e true m v n more = ap (λ r. is_eq r || is_among name k (filter p ks)) e ∙ more
       go Less e false m v n more = more
@@ -117,13 +118,15 @@ module _ {K : Type 0} (name : K → Name) (only : IsOnlyName name) where
     in_none f (y ∷ ys) = ap (λ zs. y ∷ zs) (in_none f ys)
 
     -- a key that comes before those that are there changes nothing
-    in_later : (f : X → X) (k : K) (ks : List K) (ys : Under K X) → AllByRecursion (λ y. is_earlier (name k) (name y.0) ≡ true) ys → change_in f ks ys ≡ change_in f (k ∷ ks) ys
+    in_later : (f : X → X) (k : K) (ks : List K) (ys : Under K X) → AllByRecursion (λ y. is_earlier (name k) (name y.0) ≡ true) ys
+        → change_in f ks ys ≡ change_in f (k ∷ ks) ys
     in_later f k ks [] a = refl
     in_later f k ks (y ∷ ys) a =
         ap (λ zs. (y.0, cond (is_among name y.0 ks) (f y.1) y.1) ∷ zs) (in_later f k ks ys a.1)
         ∙ ap (λ u. (y.0, cond (u || is_among name y.0 ks) (f y.1) y.1) ∷ change_in f (k ∷ ks) ys) (sym (later-apart (name k) (name y.0) a.0))
 
-    one_more : (f : X → X) (k : K) (ks : List K) (ys : Under K X) → is_among name k ks ≡ false → Rise name ys → change_in f ks (change name k f ys) ≡ change_in f (k ∷ ks) ys
+    one_more : (f : X → X) (k : K) (ks : List K) (ys : Under K X) → is_among name k ks ≡ false → Rise name ys
+        → change_in f ks (change name k f ys) ≡ change_in f (k ∷ ks) ys
     one_more f k ks [] n r = refl
     one_more f k ks (y ∷ ys) n r = go (same name k y.0) refl (one_more f k ks ys n r.1)
       where
@@ -132,7 +135,8 @@ module _ {K : Type 0} (name : K → Name) (only : IsOnlyName name) where
         go true v more =
             let i : k ≡ y.0 = one name only k y.0 v in
             let none : is_among name y.0 ks ≡ false = ap (λ c. is_among name c ks) (sym i) ∙ n in
-            let later : AllByRecursion (λ z. is_earlier (name k) (name z.0) ≡ true) ys = subst (λ c. AllByRecursion (λ z. is_earlier (name c) (name z.0) ≡ true) ys) (sym i) r.0 in
+            let later : AllByRecursion (λ z. is_earlier (name k) (name z.0) ≡ true) ys =
+                subst (λ c. AllByRecursion (λ z. is_earlier (name c) (name z.0) ≡ true) ys) (sym i) r.0 in
             ap (λ u. (y.0, cond u (f (f y.1)) (f y.1)) ∷ change_in f ks ys) none
             ∙ ap (λ zs. (y.0, f y.1) ∷ zs) (in_later f k ks ys later)
             ∙ ap (λ u. (y.0, cond (u || is_among name y.0 ks) (f y.1) y.1) ∷ change_in f (k ∷ ks) ys) (sym (at_itself k y.0 i))
@@ -140,21 +144,25 @@ module _ {K : Type 0} (name : K → Name) (only : IsOnlyName name) where
             ap (λ zs. (y.0, cond (is_among name y.0 ks) (f y.1) y.1) ∷ zs) more
             ∙ ap (λ u. (y.0, cond (u || is_among name y.0 ks) (f y.1) y.1) ∷ change_in f (k ∷ ks) ys) (sym (at_other k y.0 v))
 
-    each_in : (f : X → X) (ks : List K) (ys : Under K X) → IsStrictlySortedBy (order name) ks → Rise name ys → change_each name f ks ys ≡ change_in f ks ys
+    each_in : (f : X → X) (ks : List K) (ys : Under K X) → IsStrictlySortedBy (order name) ks → Rise name ys
+        → change_each name f ks ys ≡ change_in f ks ys
     each_in f [] ys s r = in_none f ys
     each_in f (k ∷ ks) ys s r =
         each_in f ks (change name k f ys) (sorted_tail (order name) k ks s) (rise-change name only k f ys r) ∙ one_more f k ks ys (not_among k ks (sorted_head (order name) k ks s)) r
 
-    in_all : (f : X → X) (ks : List K) (ys : Under K X) → AllByRecursion (λ y. is_among name y.0 ks ≡ false → f y.1 ≡ y.1) ys → change_in f ks ys ≡ map (λ y. (y.0, f y.1)) ys
+    in_all : (f : X → X) (ks : List K) (ys : Under K X) → AllByRecursion (λ y. is_among name y.0 ks ≡ false → f y.1 ≡ y.1) ys
+        → change_in f ks ys ≡ map (λ y. (y.0, f y.1)) ys
     in_all f ks [] a = refl
-    in_all f ks (y ∷ ys) a = ap (λ x. (y.0, x) ∷ change_in f ks ys) (go (is_among name y.0 ks) a.0) ∙ ap (λ zs. (y.0, f y.1) ∷ zs) (in_all f ks ys a.1)
+    in_all f ks (y ∷ ys) a =
+        ap (λ x. (y.0, x) ∷ change_in f ks ys) (go (is_among name y.0 ks) a.0) ∙ ap (λ zs. (y.0, f y.1) ∷ zs) (in_all f ks ys a.1)
       where
         go : (v : Bool) → (v ≡ false → f y.1 ≡ y.1) → cond v (f y.1) y.1 ≡ f y.1
         go true same = refl
         go false same = sym (same refl)
 
     -- where the others stay as they are, all are changed
-    pub all_changed : (f : X → X) (ks : List K) (ys : Under K X) → IsStrictlySortedBy (order name) ks → Rise name ys → AllByRecursion (λ y. is_among name y.0 ks ≡ false → f y.1 ≡ y.1) ys
+    pub all_changed : (f : X → X) (ks : List K) (ys : Under K X) → IsStrictlySortedBy (order name) ks → Rise name ys
+        → AllByRecursion (λ y. is_among name y.0 ks ≡ false → f y.1 ≡ y.1) ys
         → change_each name f ks ys ≡ map (λ y. (y.0, f y.1)) ys
     all_changed f ks ys s r a = each_in f ks ys s r ∙ in_all f ks ys a
 
@@ -170,7 +178,8 @@ module _ {K : Type 0} (name : K → Name) (only : IsOnlyName name) where
       head_keys [] = refl
       head_keys (y ∷ ys) = go (q y.1) (head_keys ys)
         where
-          go : (v : Bool) → option_map (λ y. y.0) (find (λ y. q y.1) ys) ≡ first (keys_with ys) → option_map (λ y. y.0) (cond v (Some y) (find (λ y. q y.1) ys)) ≡ first (cond v (y.0 ∷ keys_with ys) (keys_with ys))
+          go : (v : Bool) → option_map (λ y. y.0) (find (λ y. q y.1) ys) ≡ first (keys_with ys)
+              → option_map (λ y. y.0) (cond v (Some y) (find (λ y. q y.1) ys)) ≡ first (cond v (y.0 ∷ keys_with ys) (keys_with ys))
           go true more = refl
           go false more = more
 
@@ -182,7 +191,8 @@ module _ {K : Type 0} (name : K → Name) (only : IsOnlyName name) where
           go true more = (a.0, more)
           go false more = more
 
-      all_after : (k : K) (ys : Under K X) → AllByRecursion (λ y. is_earlier (name k) (name y.0) ≡ true) ys → AllByRecursion (λ y. order name k y.0 ≡ Less) ys
+      all_after : (k : K) (ys : Under K X) → AllByRecursion (λ y. is_earlier (name k) (name y.0) ≡ true) ys
+          → AllByRecursion (λ y. order name k y.0 ≡ Less) ys
       all_after k [] a = tt
       all_after k (y ∷ ys) a = (comes-first (name k) (name y.0) a.0, all_after k ys a.1)
 
@@ -196,7 +206,8 @@ module _ {K : Type 0} (name : K → Name) (only : IsOnlyName name) where
       any_keys k [] r = refl
       any_keys k (y ∷ ys) r = go (same name k y.0) refl (q y.1) refl (any_keys k ys r.1)
         where
-          go : (u : Bool) → same name k y.0 ≡ u → (v : Bool) → q y.1 ≡ v → is_among name k (keys_with ys) ≡ option_map_or q (under name k ys) false
+          go : (u : Bool) → same name k y.0 ≡ u → (v : Bool) → q y.1 ≡ v
+              → is_among name k (keys_with ys) ≡ option_map_or q (under name k ys) false
               → is_among name k (cond v (y.0 ∷ keys_with ys) (keys_with ys)) ≡ option_map_or q (cond u (Some y.1) (under name k ys)) false
           go true m true n more = ap (λ w. w || is_among name k (keys_with ys)) (name_same (name k) (name y.0) ∙ m) ∙ sym n
           go true m false n more =
@@ -206,7 +217,8 @@ module _ {K : Type 0} (name : K → Name) (only : IsOnlyName name) where
           go false m false n more = more
 
       -- where each key whose value passes is among them, theirs is the first value that does
-      pub first_found : (ks : List K) (ys : Under K X) → IsStrictlySortedBy (order name) ks → Rise name ys → ((k : K) → option_map_or q (under name k ys) false ≡ true → is_among name k ks ≡ true)
+      pub first_found : (ks : List K) (ys : Under K X) → IsStrictlySortedBy (order name) ks → Rise name ys
+          → ((k : K) → option_map_or q (under name k ys) false ≡ true → is_among name k ks ≡ true)
           → find (λ k. option_map_or q (under name k ys) false) ks ≡ option_map (λ y. y.0) (find (λ y. q y.1) ys)
       first_found ks ys s r all =
           let p = λ (k : K). option_map_or q (under name k ys) false in

@@ -18,7 +18,8 @@ found-passes q (y ∷ xs) x h = go (q y) refl (found-passes q xs x)
 
 -- ---- one more
 
-pub all-insert : {X : Type 0} (P : X → Type 0) (low : List X) (e : X) (high : List X) → P e → AllByRecursion P (low ++ high) → AllByRecursion P (low ++ e ∷ high)
+pub all-insert : {X : Type 0} (P : X → Type 0) (low : List X) (e : X) (high : List X) → P e → AllByRecursion P (low ++ high)
+    → AllByRecursion P (low ++ e ∷ high)
 all-insert P [] e high p a = (p, a)
 all-insert P (x ∷ low) e high p a = (a.0, all-insert P low e high p a.1)
 
@@ -27,7 +28,8 @@ here-all P [] e high a = a.0
 here-all P (x ∷ low) e high a = here-all P low e high a.1
 
 -- some pass with one more where it does, or some did
-pub any-late : {X : Type 0} (q : X → Bool) (low : List X) (e : X) (high : List X) → list_any q (low ++ e ∷ high) ≡ (q e || list_any q (low ++ high))
+pub any-late : {X : Type 0} (q : X → Bool) (low : List X) (e : X) (high : List X)
+    → list_any q (low ++ e ∷ high) ≡ (q e || list_any q (low ++ high))
 any-late q [] e high = refl
 any-late q (f ∷ low) e high = ap (λ v. q f || v) (any-late q low e high) ∙ swap (q f) (q e) (list_any q (low ++ high))
   where
@@ -37,18 +39,21 @@ any-late q (f ∷ low) e high = ap (λ v. q f || v) (any-late q low e high) ∙ 
     swap false b c = refl
 
 -- what some pass, some pass with one more
-pub any-insert : {X : Type 0} (q : X → Bool) (low : List X) (e : X) (high : List X) → list_any q (low ++ high) ≡ true → list_any q (low ++ e ∷ high) ≡ true
+pub any-insert : {X : Type 0} (q : X → Bool) (low : List X) (e : X) (high : List X) → list_any q (low ++ high) ≡ true
+    → list_any q (low ++ e ∷ high) ≡ true
 any-insert q low e high h = any-late q low e high ∙ or_right (q e) (list_any q (low ++ high)) h
 
 pub any-here : {X : Type 0} (q : X → Bool) (low : List X) (e : X) (high : List X) → q e ≡ true → list_any q (low ++ e ∷ high) ≡ true
 any-here q low e high h = any-late q low e high ∙ ap (λ v. v || list_any q (low ++ high)) h
 
 -- what none passes, none passes with one more that doesn't
-pub any-beside : {X : Type 0} (q : X → Bool) (low : List X) (e : X) (high : List X) → q e ≡ false → list_any q (low ++ e ∷ high) ≡ list_any q (low ++ high)
+pub any-beside : {X : Type 0} (q : X → Bool) (low : List X) (e : X) (high : List X) → q e ≡ false
+    → list_any q (low ++ e ∷ high) ≡ list_any q (low ++ high)
 any-beside q low e high h = any-late q low e high ∙ ap (λ v. v || list_any q (low ++ high)) h
 
 -- what follows of a test for each, follows for some
-pub any-follows : {X : Type 0} (p q : X → Bool) → ((x : X) → p x ≡ true → q x ≡ true) → (xs : List X) → list_any p xs ≡ true → list_any q xs ≡ true
+pub any-follows : {X : Type 0} (p q : X → Bool) → ((x : X) → p x ≡ true → q x ≡ true) → (xs : List X) → list_any p xs ≡ true
+    → list_any q xs ≡ true
 any-follows p q follows [] h = h
 any-follows p q follows (x ∷ xs) h = go (p x) refl h (λ k. any-follows p q follows xs k)
   where
@@ -57,7 +62,8 @@ any-follows p q follows (x ∷ xs) h = go (p x) refl h (λ k. any-follows p q fo
     go false b k more = or_right (q x) (list_any q xs) (more k)
 
 -- what each fails, none passes
-pub any-none : {X : Type 0} (P : X → Type 0) (q : X → Bool) → ((x : X) → P x → q x ≡ false) → (xs : List X) → AllByRecursion P xs → list_any q xs ≡ false
+pub any-none : {X : Type 0} (P : X → Type 0) (q : X → Bool) → ((x : X) → P x → q x ≡ false) → (xs : List X) → AllByRecursion P xs
+    → list_any q xs ≡ false
 any-none P q fails [] a = refl
 any-none P q fails (x ∷ xs) a = ap (λ v. v || list_any q xs) (fails x a.0) ∙ any-none P q fails xs a.1
 
@@ -66,6 +72,7 @@ pub none-any : {X : Type 0} (q : X → Bool) (xs : List X) → list_any q xs ≡
 none-any q [] h = tt
 none-any q (x ∷ xs) h = go (q x) refl h (λ k. none-any q xs k)
   where
-    go : (b : Bool) → q x ≡ b → (b || list_any q xs) ≡ false → (list_any q xs ≡ false → AllByRecursion (λ y. q y ≡ false) xs) → AllByRecursion (λ y. q y ≡ false) (x ∷ xs)
+    go : (b : Bool) → q x ≡ b → (b || list_any q xs) ≡ false → (list_any q xs ≡ false → AllByRecursion (λ y. q y ≡ false) xs)
+        → AllByRecursion (λ y. q y ≡ false) (x ∷ xs)
     go true b k more = absurd (true≢false k)
     go false b k more = (b, more k)

@@ -26,7 +26,8 @@ use Rattle.zed_live.proofs.Lists.{here-all}
 
 module _ (makes_it : Edit → Bool) (s : Stamp) (stamped : (e : Edit) → makes_it e ≡ true → same_stamp s e.stamp ≡ true) where
   -- no later edit than one that makes it does
-  none-later : (t : Stamp) (es : List Edit) → same_stamp s t ≡ true → AllByRecursion (λ f. before t f.stamp ≡ true) es → list_any makes_it es ≡ false
+  none-later : (t : Stamp) (es : List Edit) → same_stamp s t ≡ true → AllByRecursion (λ f. before t f.stamp ≡ true) es
+      → list_any makes_it es ≡ false
   none-later t [] h a = refl
   none-later t (f ∷ es) h a = go (makes_it f) refl (none-later t es h a.1)
     where
@@ -60,7 +61,8 @@ board-stamp b e h = go (same_stamp b.name.stamp e.stamp) refl
         let some = find-any (λ x. same_board x.id b) (made_boards e.stamp e.op) in
         absurd (true≢false (sym h ∙ sym some ∙ ap is_some none))
 
-pub made-once : (b : BoardId) (e : Edit) (low high : List Edit) → IsRising (low ++ e ∷ high) → makes e (thing.Board b) ≡ true → list_any (λ f. makes f (thing.Board b)) (low ++ high) ≡ false
+pub made-once : (b : BoardId) (e : Edit) (low high : List Edit) → IsRising (low ++ e ∷ high) → makes e (thing.Board b) ≡ true
+    → list_any (λ f. makes f (thing.Board b)) (low ++ high) ≡ false
 made-once b e low high rises h = once (λ f. makes f (thing.Board b)) b.name.stamp (board-stamp b) e low high rises h
 
 -- ---- stats
@@ -76,9 +78,11 @@ stat-stamp x e h = go (same_stamp x.name.stamp e.stamp) refl
     go : (v : Bool) → same_stamp x.name.stamp e.stamp ≡ v → v ≡ true
     go true v = refl
     go false v =
-        let none = unfound (λ (y : Stat). y.id.name) (λ q. same_stamp q e.stamp) x.name (made_stats e.stamp e.op) (stats-of-edit e.stamp e.op) v in
+        let none =
+        unfound (λ (y : Stat). y.id.name) (λ q. same_stamp q e.stamp) x.name (made_stats e.stamp e.op) (stats-of-edit e.stamp e.op) v in
         let some = find-any (λ y. same_stat y.id x) (made_stats e.stamp e.op) in
         absurd (true≢false (sym h ∙ sym some ∙ ap is_some none))
 
-pub stat-made-once : (x : StatId) (e : Edit) (low high : List Edit) → IsRising (low ++ e ∷ high) → makes e (thing.Stat x) ≡ true → list_any (λ f. makes f (thing.Stat x)) (low ++ high) ≡ false
+pub stat-made-once : (x : StatId) (e : Edit) (low high : List Edit) → IsRising (low ++ e ∷ high) → makes e (thing.Stat x) ≡ true
+    → list_any (λ f. makes f (thing.Stat x)) (low ++ high) ≡ false
 stat-made-once x e low high rises h = once (λ f. makes f (thing.Stat x)) x.name.stamp (stat-stamp x) e low high rises h

@@ -33,11 +33,13 @@ earlier-apart : (b c : BoardId) → is_earlier b.name c.name ≡ true → same_b
 earlier-apart b c h = grind (arith, h)
 
 -- a board is found by its name
-its-board : (ys : Boards) (q : BoardId × LiveBoard → Bool) (y : BoardId × LiveBoard) → Rise ys → find q ys ≡ Some y → board_in y.0 ys ≡ Some y.1
+its-board : (ys : Boards) (q : BoardId × LiveBoard → Bool) (y : BoardId × LiveBoard) → Rise ys → find q ys ≡ Some y
+    → board_in y.0 ys ≡ Some y.1
 its-board [] q y r h = absurd (cc)
 its-board (z ∷ ys) q y r h = go (q z) h (λ k. its-board ys q y r.1 k)
   where
-    go : (v : Bool) → cond v (Some z) (find q ys) ≡ Some y → (find q ys ≡ Some y → board_in y.0 ys ≡ Some y.1) → cond (same_board y.0 z.0) (Some z.1) (board_in y.0 ys) ≡ Some y.1
+    go : (v : Bool) → cond v (Some z) (find q ys) ≡ Some y → (find q ys ≡ Some y → board_in y.0 ys ≡ Some y.1)
+        → cond (same_board y.0 z.0) (Some z.1) (board_in y.0 ys) ≡ Some y.1
     go true k more =
         let i : z ≡ y = some_is z y k in
         let w : same_board y.0 z.0 ≡ true = ap (λ (a : BoardId × LiveBoard). same_board y.0 a.0) i ∙ same_name-itself (y.0).name in
@@ -46,20 +48,24 @@ its-board (z ∷ ys) q y r h = go (q z) h (λ k. its-board ys q y r.1 k)
         let w : same_board y.0 z.0 ≡ false = earlier-apart z.0 y.0 (later ys r.0 k) in
         rw w (more k)
       where
-        later : (zs : Boards) → AllByRecursion (λ a. is_earlier (z.0).name (a.0).name ≡ true) zs → find q zs ≡ Some y → is_earlier (z.0).name (y.0).name ≡ true
+        later : (zs : Boards) → AllByRecursion (λ a. is_earlier (z.0).name (a.0).name ≡ true) zs → find q zs ≡ Some y
+            → is_earlier (z.0).name (y.0).name ≡ true
         later [] a m = absurd (cc)
         later (x ∷ zs) a m = pick (q x) m (λ j. later zs a.1 j)
           where
-            pick : (v : Bool) → cond v (Some x) (find q zs) ≡ Some y → (find q zs ≡ Some y → is_earlier (z.0).name (y.0).name ≡ true) → is_earlier (z.0).name (y.0).name ≡ true
+            pick : (v : Bool) → cond v (Some x) (find q zs) ≡ Some y → (find q zs ≡ Some y → is_earlier (z.0).name (y.0).name ≡ true)
+                → is_earlier (z.0).name (y.0).name ≡ true
             pick true j rest = sym (ap (λ (u : BoardId × LiveBoard). is_earlier (z.0).name (u.0).name) (some_is x y j)) ∙ a.0
             pick false j rest = rest j
 
 -- one that is found is among them
-among : (b : BoardId) (q : LiveBoard → Bool) (ys : Boards) (x : LiveBoard) → board_in b ys ≡ Some x → q x ≡ true → list_any (λ y. q y.1) ys ≡ true
+among : (b : BoardId) (q : LiveBoard → Bool) (ys : Boards) (x : LiveBoard) → board_in b ys ≡ Some x → q x ≡ true
+    → list_any (λ y. q y.1) ys ≡ true
 among b q [] x h k = absurd (cc)
 among b q (y ∷ ys) x h k = go (same_board b y.0) h (λ m. among b q ys x m k)
   where
-    go : (v : Bool) → cond v (Some y.1) (board_in b ys) ≡ Some x → (board_in b ys ≡ Some x → list_any (λ y. q y.1) ys ≡ true) → (q y.1 || list_any (λ y. q y.1) ys) ≡ true
+    go : (v : Bool) → cond v (Some y.1) (board_in b ys) ≡ Some x → (board_in b ys ≡ Some x → list_any (λ y. q y.1) ys ≡ true)
+        → (q y.1 || list_any (λ y. q y.1) ys) ≡ true
     go true m more = ap (λ u. u || list_any (λ y. q y.1) ys) (ap q (some_is y.1 x m) ∙ k)
     go false m more = or_right (q y.1) (list_any (λ y. q y.1) ys) (more m)
 
@@ -68,7 +74,9 @@ any-put : (x : StatId) (es : List Edit) → list_any (λ e. makes e (thing.Stat 
 any-put x [] h = absurd (true≢false (sym h))
 any-put x (e ∷ es) h = go (makes e (thing.Stat x)) refl h (λ k. any-put x es k)
   where
-    go : (v : Bool) → makes e (thing.Stat x) ≡ v → (v || list_any (λ f. makes f (thing.Stat x)) es) ≡ true → (list_any (λ f. makes f (thing.Stat x)) es ≡ true → (b : BoardId) × (list_any (puts x b) es ≡ true)) → (b : BoardId) × (list_any (puts x b) (e ∷ es) ≡ true)
+    go : (v : Bool) → makes e (thing.Stat x) ≡ v → (v || list_any (λ f. makes f (thing.Stat x)) es) ≡ true
+        → (list_any (λ f. makes f (thing.Stat x)) es ≡ true → (b : BoardId) × (list_any (puts x b) es ≡ true))
+        → (b : BoardId) × (list_any (puts x b) (e ∷ es) ≡ true)
     go true v k more = let p = makes-puts x e v in (p.0, ap (λ u. u || list_any (puts x p.0) es) p.1)
     go false v k more = let p = more k in (p.0, or_right (puts x p.0 e) (list_any (puts x p.0) es) p.1)
 
@@ -83,7 +91,8 @@ module _ (es : List Edit) (ys : Boards) (rises : IsRising es) (was : BoardsShow 
       go (Some x) k = sym k.0
 
   -- a stat that a board has is put there
-  had-put : (b : BoardId) (x : StatId) (live : LiveBoard) → board_in b ys ≡ Some live → has x live.stats ≡ true → list_any (puts x b) es ≡ true
+  had-put : (b : BoardId) (x : StatId) (live : LiveBoard) → board_in b ys ≡ Some live → has x live.stats ≡ true
+      → list_any (puts x b) es ≡ true
   had-put b x live is h = board (board_in b ys) (was.each b) is
     where
       stat : (o : Option LiveStat) → IsLeftOn b es x o → is_some o ≡ true → list_any (puts x b) es ≡ true
@@ -112,7 +121,8 @@ module _ (es : List Edit) (ys : Boards) (rises : IsRising es) (was : BoardsShow 
   home-put : (x : StatId) (c : BoardId) → home_in x ys ≡ Some c → list_any (puts x c) es ≡ true
   home-put x c h = go (find (λ y. has x (y.1).stats) ys) refl h
     where
-      go : (o : Option (BoardId × LiveBoard)) → find (λ y. has x (y.1).stats) ys ≡ o → option_map (λ y. y.0) o ≡ Some c → list_any (puts x c) es ≡ true
+      go : (o : Option (BoardId × LiveBoard)) → find (λ y. has x (y.1).stats) ys ≡ o → option_map (λ y. y.0) o ≡ Some c
+          → list_any (puts x c) es ≡ true
       go None k m = absurd (cc)
       go (Some y) k m =
           let i : y.0 ≡ c = some_is y.0 c m in

@@ -17,12 +17,14 @@ rewritten : (bytes : List ℕ) → is_canonical bytes ≡ true → is_rewritten 
 unfolding is_canonical
 rewritten bytes e = e
 
-pub genesis-opens : (e : Edit) (bytes : List ℕ) (h : LiveHeader) → e.op ≡ Genesis bytes → Fits e → write_all e.stamp (made_by e).header h ≡ header_after e.stamp e.op h
+pub genesis-opens : (e : Edit) (bytes : List ℕ) (h : LiveHeader) → e.op ≡ Genesis bytes → Fits e
+    → write_all e.stamp (made_by e).header h ≡ header_after e.stamp e.op h
 genesis-opens e bytes h is fits = rw is (go (world_at bytes) refl good)
   where
     good : is_rewritten bytes (world_at bytes) ≡ true
     good = rewritten bytes (let g = ((fit_is_each_part e).0 fits).3 in rw is at g)
 
-    go : (r : Result Contents WorldError) → world_at bytes ≡ r → is_rewritten bytes r ≡ true → write_all e.stamp (open_world e.stamp r empty_document).header h ≡ open_header e.stamp r h
+    go : (r : Result Contents WorldError) → world_at bytes ≡ r → is_rewritten bytes r ≡ true
+        → write_all e.stamp (open_world e.stamp r empty_document).header h ≡ open_header e.stamp r h
     go (Ok w) k g = refl
     go (Err x) k g = absurd (cc)

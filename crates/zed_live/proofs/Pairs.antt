@@ -17,14 +17,17 @@ use Rattle.zed_live.specs.Listed.{listed}
 -- ---- what a set has after one more is put in
 
 module _ {K : Type 0} (R : K → K → Ordering) (k : K) (old new : List K) where
-  pub stays : ((q : K) → list_any (is_at (R q)) new ≡ cond (is_at (R k) q) true (list_any (is_at (R q)) old)) → (q : K) → list_any (is_at (R q)) old ≡ true → list_any (is_at (R q)) new ≡ true
+  pub stays : ((q : K) → list_any (is_at (R q)) new ≡ cond (is_at (R k) q) true (list_any (is_at (R q)) old)) → (q : K)
+      → list_any (is_at (R q)) old ≡ true
+      → list_any (is_at (R q)) new ≡ true
   stays h q was = h q ∙ go (is_at (R k) q)
     where
       go : (b : Bool) → cond b true (list_any (is_at (R q)) old) ≡ true
       go true = refl
       go false = was
 
-  pub is_put : IsTotalOrder R → ((q : K) → list_any (is_at (R q)) new ≡ cond (is_at (R k) q) true (list_any (is_at (R q)) old)) → list_any (is_at (R k)) new ≡ true
+  pub is_put : IsTotalOrder R → ((q : K) → list_any (is_at (R q)) new ≡ cond (is_at (R k) q) true (list_any (is_at (R q)) old))
+      → list_any (is_at (R k)) new ≡ true
   is_put o h = h k ∙ ap (λ r. cond (is_eq r) true (list_any (is_at (R k)) old)) (tied_itself o k)
 
 -- ---- the second parts that are listed with a first part
@@ -38,7 +41,9 @@ pub sorted_none : {B : Type 0} (S : B → B → Ordering) → IsStrictlySortedBy
 unfolding IsStrictlySortedBy
 sorted_none S = tt
 
-pub sorted_cons : {B : Type 0} (S : B → B → Ordering) (b : Bool) (t : B) (ts : List B) → (b ≡ true → AllByRecursion (λ u. S t u ≡ Less) ts) → IsStrictlySortedBy S ts → IsStrictlySortedBy S (cond b (t ∷ ts) ts)
+pub sorted_cons : {B : Type 0} (S : B → B → Ordering) (b : Bool) (t : B) (ts : List B) → (b ≡ true → AllByRecursion (λ u. S t u ≡ Less) ts)
+    → IsStrictlySortedBy S ts
+    → IsStrictlySortedBy S (cond b (t ∷ ts) ts)
 unfolding IsStrictlySortedBy
 sorted_cons S true t ts a up = (a refl, up)
 sorted_cons S false t ts a up = up
@@ -71,7 +76,8 @@ module _ {A B : Type 0} (R : A → A → Ordering) (S : B → B → Ordering) wh
         ∙ ap (λ v. v || list_any (is_at (both_cmp (x, b))) ws) (sym (then_eq (R x w.0) (S b w.1)))
       where
         go : (v : Bool) → list_any (is_at (S b)) (listed same x ws) ≡ list_any (is_at (both_cmp (x, b))) ws
-            → list_any (is_at (S b)) (cond v (w.1 ∷ listed same x ws) (listed same x ws)) ≡ ((v && is_eq (S b w.1)) || list_any (is_at (both_cmp (x, b))) ws)
+            → list_any (is_at (S b)) (cond v (w.1 ∷ listed same x ws) (listed same x ws))
+            ≡ ((v && is_eq (S b w.1)) || list_any (is_at (both_cmp (x, b))) ws)
         go true more = ap (λ u. is_eq (S b w.1) || u) more
         go false more = more
 
@@ -91,7 +97,8 @@ module _ {A B : Type 0} (R : A → A → Ordering) (S : B → B → Ordering) wh
     sorted_listed x (w ∷ ws) up =
         sorted_cons S (same w.0 x) w.1 (listed same x ws) (λ h. seconds_after x w h ws (sorted_head both_cmp w ws up)) (sorted_listed x ws (sorted_tail both_cmp w ws up))
 
-    none_past : (x : A) (m : A × B) → R x m.0 ≡ Less → (ws : List (A × B)) → AllByRecursion (λ v. both_cmp m v ≡ Less) ws → listed same x ws ≡ []
+    none_past : (x : A) (m : A × B) → R x m.0 ≡ Less → (ws : List (A × B)) → AllByRecursion (λ v. both_cmp m v ≡ Less) ws
+        → listed same x ws ≡ []
     none_past x m e [] a = refl
     none_past x m e (v ∷ vs) a =
         let apart : same v.0 x ≡ false = sym (told x v.0) ∙ ap is_eq (beyond x m v e a.0) in
@@ -108,7 +115,8 @@ module _ {A B : Type 0} (R : A → A → Ordering) (S : B → B → Ordering) wh
       run_listed x [] up = refl
       run_listed x (w ∷ ws) up = go (R x w.0) refl (run_listed x ws (sorted_tail both_cmp w ws up))
         where
-          go : (r : Ordering) → R x w.0 ≡ r → run same x (filter (is_from x) ws) ≡ listed same x ws → run same x (cond (is_from x w) (w ∷ filter (is_from x) ws) (filter (is_from x) ws)) ≡ listed same x (w ∷ ws)
+          go : (r : Ordering) → R x w.0 ≡ r → run same x (filter (is_from x) ws) ≡ listed same x ws
+              → run same x (cond (is_from x w) (w ∷ filter (is_from x) ws) (filter (is_from x) ws)) ≡ listed same x (w ∷ ws)
           go Less e more =
               let within : is_from x w ≡ true = ap (λ r. is_le (ordering_then r (S first w.1)) && true) e in
               let apart : same w.0 x ≡ false = sym (told x w.0) ∙ ap is_eq e in
@@ -117,7 +125,8 @@ module _ {A B : Type 0} (R : A → A → Ordering) (S : B → B → Ordering) wh
               ∙ sym (none_past x w e ws (sorted_head both_cmp w ws up))
               ∙ sym (ap (λ b. cond b (w.1 ∷ listed same x ws) (listed same x ws)) apart)
           go Equal e more =
-              let within : is_from x w ≡ true = ap (λ r. is_le (ordering_then r (S first w.1)) && true) e ∙ ap (λ b. b && true) (least w.1) in
+              let within : is_from x w ≡ true =
+              ap (λ r. is_le (ordering_then r (S first w.1)) && true) e ∙ ap (λ b. b && true) (least w.1) in
               let one : same w.0 x ≡ true = sym (told x w.0) ∙ ap is_eq e in
               ap (λ b. run same x (cond b (w ∷ filter (is_from x) ws) (filter (is_from x) ws))) within
               ∙ ap (λ b. cond b (w.1 ∷ run same x (filter (is_from x) ws)) []) one

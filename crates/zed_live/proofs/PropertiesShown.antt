@@ -67,7 +67,9 @@ latest-value d v (Some w) e = inside w.value v (sym e)
 
 module _ (normal : ReadIsNormal) (b : BoardId) (es : List Edit) (board : Board) (rises : IsRising es) (sizes : HaveSizes es) (there : find_board b (replay es).boards ≡ Some board) where
   -- the latest write of a field is what the board in the replay has
-  pub field-shown : {V : Type 0} (f : Field Board V) (d : V) (kept : Option (Written V)) → GreatestStampWins (of_board b f) → kept ≡ latest_in (of_board b f) (taken es) → value_or d kept ≡ f.value board
+  pub field-shown : {V : Type 0} (f : Field Board V) (d : V) (kept : Option (Written V)) → GreatestStampWins (of_board b f)
+      → kept ≡ latest_in (of_board b f) (taken es)
+      → value_or d kept ≡ f.value board
   field-shown f d kept wins was =
       latest-value d (f.value board) kept
       (sym (ap (option_map f.value) there) ∙ wins es rises sizes ∙ ap (latest_or None) (sym was))
@@ -120,7 +122,8 @@ replayed_properties_are_shown normal b es p board rises sizes there was =
     let r = board.properties in
     let a = shown_properties p in
     let limit : a.time_limit ≡ r.time_limit = field-shown normal b es board rises sizes there time_limit (pos 0) p.time_limit (board-wins time_limit is_time_limit b normal) was.time_limit in
-    let level : a.rank ≡ r.rank = field-shown normal b es board rises sizes there rank 0 p.rank (board-wins rank is_rank b normal) was.rank in
+    let level : a.rank ≡ r.rank =
+    field-shown normal b es board rises sizes there rank 0 p.rank (board-wins rank is_rank b normal) was.rank in
     let path : make a.bytes a.flags a.time_limit a.rank a.exits a.texts ≡ make r.bytes r.flags r.time_limit r.rank r.exits r.texts =
     ap (λ x. make x a.flags a.time_limit a.rank a.exits a.texts) (bytes-shown normal b es board rises sizes there p was)
     ∙ ap (λ x. make r.bytes x a.time_limit a.rank a.exits a.texts) (flags-shown normal b es board rises sizes there p was)

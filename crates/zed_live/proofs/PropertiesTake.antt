@@ -43,14 +43,19 @@ record HasTables (p : LiveProperties) : Type 0 where
 -- all properties of a board after an edit
 record PropertiesPut (b : BoardId) (e : Edit) (old new : LiveProperties) : Type 0 where
   pub tables : HasTables new
-  pub bytes : (f : BoardByte) → Puts (of_board b (board_byte f)) e (register (board_byte_index f) old.bytes) (register (board_byte_index f) new.bytes)
-  pub flags : (f : BoardFlag) → Puts (of_board b (board_flag f)) e (register (board_flag_index f) old.flags) (register (board_flag_index f) new.flags)
+  pub bytes : (f : BoardByte)
+      → Puts (of_board b (board_byte f)) e (register (board_byte_index f) old.bytes) (register (board_byte_index f) new.bytes)
+  pub flags : (f : BoardFlag)
+      → Puts (of_board b (board_flag f)) e (register (board_flag_index f) old.flags) (register (board_flag_index f) new.flags)
   pub time_limit : Puts (of_board b time_limit) e old.time_limit new.time_limit
   pub rank : Puts (of_board b rank) e old.rank new.rank
   pub exits : (f : Side) → Puts (of_board b (exit f)) e (register (side_index f) old.exits) (register (side_index f) new.exits)
-  pub texts : (f : BoardText) → Puts (of_board b (board_text f)) e (register (board_text_index f) old.texts) (register (board_text_index f) new.texts)
+  pub texts : (f : BoardText)
+      → Puts (of_board b (board_text f)) e (register (board_text_index f) old.texts) (register (board_text_index f) new.texts)
 
-show-late : (b : BoardId) (e : Edit) (low high : List Edit) (old new : LiveProperties) → IsRising (low ++ e ∷ high) → PropertiesPut b e old new → PropertiesShow b (low ++ high) old → PropertiesShow b (low ++ e ∷ high) new
+show-late : (b : BoardId) (e : Edit) (low high : List Edit) (old new : LiveProperties) → IsRising (low ++ e ∷ high)
+    → PropertiesPut b e old new → PropertiesShow b (low ++ high) old
+    → PropertiesShow b (low ++ e ∷ high) new
 show-late b e low high old new rises put was = record {
   three = put.tables.three;
   two_flags = put.tables.two_flags;
@@ -74,10 +79,12 @@ module _ {V : Type 0} (value : Board → V) (set : BoardSetting → Option V) (b
   abbrev field : Field Board V
   field = record { value = value; set = by_board set }
 
-  setting-writes : (s : Stamp) (setting : BoardSetting) → (of_board b field).writes (record { stamp = s; op = SetBoard b setting }) ≡ set setting
+  setting-writes : (s : Stamp) (setting : BoardSetting)
+      → (of_board b field).writes (record { stamp = s; op = SetBoard b setting }) ≡ set setting
   setting-writes s setting = ap (λ (c : Bool). cond c (set setting) None) (same_name-itself b.name)
 
-  made-writes : (e : Edit) (made : Board) → find_board b (made_boards e.stamp e.op) ≡ Some made → (of_board b field).writes e ≡ Some (value made)
+  made-writes : (e : Edit) (made : Board) → find_board b (made_boards e.stamp e.op) ≡ Some made
+      → (of_board b field).writes e ≡ Some (value made)
   made-writes e made is = ap (λ m. option_or (option_map value m) (cond (changes_board b e.op) (by_board set e.op) None)) is
 
   either : (c : Bool) (o : Option V) → cond c o o ≡ o
@@ -90,11 +97,15 @@ module _ {V : Type 0} (value : Board → V) (set : BoardSetting → Option V) (b
   sets-none (SetCells c cells tile) h = either (same_board c b) None
   sets-none _ h = refl
 
-  beside-writes : (e : Edit) → find_board b (made_boards e.stamp e.op) ≡ None → sets_property b e.op ≡ false → (of_board b field).writes e ≡ None
-  beside-writes e is h = ap (λ m. option_or (option_map value m) (cond (changes_board b e.op) (by_board set e.op) None)) is ∙ sets-none e.op h
+  beside-writes : (e : Edit) → find_board b (made_boards e.stamp e.op) ≡ None → sets_property b e.op ≡ false
+      → (of_board b field).writes e ≡ None
+  beside-writes e is h =
+      ap (λ m. option_or (option_map value m) (cond (changes_board b e.op) (by_board set e.op) None)) is ∙ sets-none e.op h
 
 -- where it is known what is written
-pub wrote : {V : Type 0} (r : Register V) (e : Edit) (old new : Option (Written V)) (w : Option V) → r.writes e ≡ w → new ≡ kept_after e.stamp old w → Puts r e old new
+pub wrote : {V : Type 0} (r : Register V) (e : Edit) (old new : Option (Written V)) (w : Option V) → r.writes e ≡ w
+    → new ≡ kept_after e.stamp old w
+    → Puts r e old new
 wrote r e old new w is puts = puts ∙ ap (kept_after e.stamp old) (sym is)
 
 -- ---- a setting
@@ -110,7 +121,9 @@ set-tables s (property.Rank n) p t = record { three = t.three; two_flags = t.two
 set-tables s (property.Exit f o) p t = record { three = t.three; two_flags = t.two_flags; four = length-set p.exits (side_index f) (keep_later (register (side_index f) p.exits) (written_at s o)) ∙ t.four; two_texts = t.two_texts }
 set-tables s (property.Text f n) p t = record { three = t.three; two_flags = t.two_flags; four = t.four; two_texts = length-set p.texts (board_text_index f) (keep_later (register (board_text_index f) p.texts) (written_at s n)) ∙ t.two_texts }
 
-set-byte : (s : Stamp) (setting : BoardSetting) (p : LiveProperties) → length p.bytes ≡ 3 → (f : BoardByte) → register (board_byte_index f) (write_property s setting p).bytes ≡ kept_after s (register (board_byte_index f) p.bytes) (board_byte_set f setting)
+set-byte : (s : Stamp) (setting : BoardSetting) (p : LiveProperties) → length p.bytes ≡ 3 → (f : BoardByte)
+    → register (board_byte_index f) (write_property s setting p).bytes
+    ≡ kept_after s (register (board_byte_index f) p.bytes) (board_byte_set f setting)
 set-byte s (property.Byte g n) p e f = set_register-at s n p.bytes 3 (board_byte_index f) (board_byte_index g) e (byte-within f)
 set-byte s (property.Flag g v) p e f = refl
 set-byte s (property.TimeLimit n) p e f = refl
@@ -118,7 +131,9 @@ set-byte s (property.Rank n) p e f = refl
 set-byte s (property.Exit g o) p e f = refl
 set-byte s (property.Text g n) p e f = refl
 
-set-flag : (s : Stamp) (setting : BoardSetting) (p : LiveProperties) → length p.flags ≡ 2 → (f : BoardFlag) → register (board_flag_index f) (write_property s setting p).flags ≡ kept_after s (register (board_flag_index f) p.flags) (board_flag_set f setting)
+set-flag : (s : Stamp) (setting : BoardSetting) (p : LiveProperties) → length p.flags ≡ 2 → (f : BoardFlag)
+    → register (board_flag_index f) (write_property s setting p).flags
+    ≡ kept_after s (register (board_flag_index f) p.flags) (board_flag_set f setting)
 set-flag s (property.Flag g v) p e f = set_register-at s v p.flags 2 (board_flag_index f) (board_flag_index g) e (flag-within f)
 set-flag s (property.Byte g n) p e f = refl
 set-flag s (property.TimeLimit n) p e f = refl
@@ -126,7 +141,8 @@ set-flag s (property.Rank n) p e f = refl
 set-flag s (property.Exit g o) p e f = refl
 set-flag s (property.Text g n) p e f = refl
 
-set-limit : (s : Stamp) (setting : BoardSetting) (p : LiveProperties) → (write_property s setting p).time_limit ≡ kept_after s p.time_limit (time_limit_set setting)
+set-limit : (s : Stamp) (setting : BoardSetting) (p : LiveProperties)
+    → (write_property s setting p).time_limit ≡ kept_after s p.time_limit (time_limit_set setting)
 set-limit s (property.TimeLimit n) p = refl
 set-limit s (property.Rank n) p = refl
 set-limit s (property.Byte g n) p = refl
@@ -134,7 +150,8 @@ set-limit s (property.Flag g v) p = refl
 set-limit s (property.Exit g o) p = refl
 set-limit s (property.Text g n) p = refl
 
-set-rank : (s : Stamp) (setting : BoardSetting) (p : LiveProperties) → (write_property s setting p).rank ≡ kept_after s p.rank (rank_set setting)
+set-rank : (s : Stamp) (setting : BoardSetting) (p : LiveProperties)
+    → (write_property s setting p).rank ≡ kept_after s p.rank (rank_set setting)
 set-rank s (property.Rank n) p = refl
 set-rank s (property.TimeLimit n) p = refl
 set-rank s (property.Byte g n) p = refl
@@ -142,7 +159,8 @@ set-rank s (property.Flag g v) p = refl
 set-rank s (property.Exit g o) p = refl
 set-rank s (property.Text g n) p = refl
 
-set-exit : (s : Stamp) (setting : BoardSetting) (p : LiveProperties) → length p.exits ≡ 4 → (f : Side) → register (side_index f) (write_property s setting p).exits ≡ kept_after s (register (side_index f) p.exits) (exit_set f setting)
+set-exit : (s : Stamp) (setting : BoardSetting) (p : LiveProperties) → length p.exits ≡ 4 → (f : Side)
+    → register (side_index f) (write_property s setting p).exits ≡ kept_after s (register (side_index f) p.exits) (exit_set f setting)
 set-exit s (property.Exit g o) p e f = set_register-at s o p.exits 4 (side_index f) (side_index g) e (side-within f)
 set-exit s (property.Byte g n) p e f = refl
 set-exit s (property.Flag g v) p e f = refl
@@ -150,7 +168,9 @@ set-exit s (property.TimeLimit n) p e f = refl
 set-exit s (property.Rank n) p e f = refl
 set-exit s (property.Text g n) p e f = refl
 
-set-text : (s : Stamp) (setting : BoardSetting) (p : LiveProperties) → length p.texts ≡ 2 → (f : BoardText) → register (board_text_index f) (write_property s setting p).texts ≡ kept_after s (register (board_text_index f) p.texts) (board_text_set f setting)
+set-text : (s : Stamp) (setting : BoardSetting) (p : LiveProperties) → length p.texts ≡ 2 → (f : BoardText)
+    → register (board_text_index f) (write_property s setting p).texts
+    ≡ kept_after s (register (board_text_index f) p.texts) (board_text_set f setting)
 set-text s (property.Text g n) p e f = set_register-at s n p.texts 2 (board_text_index f) (board_text_index g) e (text-within f)
 set-text s (property.Byte g n) p e f = refl
 set-text s (property.Flag g v) p e f = refl
@@ -158,7 +178,8 @@ set-text s (property.TimeLimit n) p e f = refl
 set-text s (property.Rank n) p e f = refl
 set-text s (property.Exit g o) p e f = refl
 
-setting-put : (b : BoardId) (s : Stamp) (setting : BoardSetting) (p : LiveProperties) → HasTables p → PropertiesPut b (by_setting b s setting) p (write_property s setting p)
+setting-put : (b : BoardId) (s : Stamp) (setting : BoardSetting) (p : LiveProperties) → HasTables p
+    → PropertiesPut b (by_setting b s setting) p (write_property s setting p)
 setting-put b s setting p t =
     let e = by_setting b s setting in
     let new = write_property s setting p in
@@ -179,7 +200,8 @@ properties_take_settings b s setting low high p rises was =
 -- ---- the making of the board
 
 -- a register of a table takes the value at its place
-table-put : {V : Type 0} (value : Board → V) (set : BoardSetting → Option V) (b : BoardId) (e : Edit) (made : Board) (vs : List V) (rs : List (Option (Written V))) (i n : ℕ) (d : V) → find_board b (made_boards e.stamp e.op) ≡ Some made → value made ≡ get_or vs i d → length vs ≡ n → length rs ≡ n → ltb i n ≡ true
+table-put : {V : Type 0} (value : Board → V) (set : BoardSetting → Option V) (b : BoardId) (e : Edit) (made : Board) (vs : List V) (rs : List (Option (Written V))) (i n : ℕ) (d : V)
+    → find_board b (made_boards e.stamp e.op) ≡ Some made → value made ≡ get_or vs i d → length vs ≡ n → length rs ≡ n → ltb i n ≡ true
     → Puts (of_board b (record { value = value; set = by_board set })) e (register i rs) (register i (write_each e.stamp vs rs))
 table-put value set b e made vs rs i n d is at size length within =
     let l = ltb-true i n within in
@@ -187,7 +209,9 @@ table-put value set b e made vs rs i n d is at size length within =
     (made-writes value set b e made is ∙ ap Some at)
     (write_each-at e.stamp vs rs i d (omega (arith, l, size)) (size ∙ sym length))
 
-made-put : (b : BoardId) (e : Edit) (made : Board) (p : LiveProperties) → find_board b (made_boards e.stamp e.op) ≡ Some made → IsWholeBoard made → HasTables p → PropertiesPut b e p (write_properties e.stamp made.properties p)
+made-put : (b : BoardId) (e : Edit) (made : Board) (p : LiveProperties) → find_board b (made_boards e.stamp e.op) ≡ Some made
+    → IsWholeBoard made → HasTables p
+    → PropertiesPut b e p (write_properties e.stamp made.properties p)
 made-put b e made p is whole t =
     let new = made.properties in
     record {

@@ -31,11 +31,13 @@ use Rattle.zed_live.specs.Shown.{values_or, shown, ReplayIsShown}
 -- ---- tables
 
 -- tables of one length that have the same at each place
-pub same-each : {V : Type 0} (d : V) (xs ys : List V) → length xs ≡ length ys → ((i : ℕ) → i < length xs → get_or xs i d ≡ get_or ys i d) → xs ≡ ys
+pub same-each : {V : Type 0} (d : V) (xs ys : List V) → length xs ≡ length ys → ((i : ℕ) → i < length xs → get_or xs i d ≡ get_or ys i d)
+    → xs ≡ ys
 same-each d [] [] e h = refl
 same-each d [] (y ∷ ys) e h = absurd (omega arith)
 same-each d (x ∷ xs) [] e h = absurd (omega arith)
-same-each d (x ∷ xs) (y ∷ ys) e h = ap (λ z. z ∷ xs) (h 0 (omega arith)) ∙ ap (λ zs. y ∷ zs) (same-each d xs ys (omega arith) (λ i l. h (suc i) (omega arith)))
+same-each d (x ∷ xs) (y ∷ ys) e h =
+    ap (λ z. z ∷ xs) (h 0 (omega arith)) ∙ ap (λ zs. y ∷ zs) (same-each d xs ys (omega arith) (λ i l. h (suc i) (omega arith)))
 
 filled : {V : Type 0} (n i : ℕ) (d : V) → get_or (replicate n d) i d ≡ d
 filled zero i d = refl
@@ -92,7 +94,9 @@ latest-value v None = refl
 latest-value v (Some w) = refl
 
 -- the latest write, or what an empty header has, is what the replay has
-field-shown : {V : Type 0} (f : Field Header V) (es : List Edit) (v : V) (kept : Option (Written V)) → GreatestStampWins (of_header f) → IsRising es → HaveSizes es → f.value empty_header ≡ v → kept ≡ latest_in (of_header f) (taken es) → value_or v kept ≡ f.value (replay es).header
+field-shown : {V : Type 0} (f : Field Header V) (es : List Edit) (v : V) (kept : Option (Written V)) → GreatestStampWins (of_header f)
+    → IsRising es → HaveSizes es → f.value empty_header ≡ v → kept ≡ latest_in (of_header f) (taken es)
+    → value_or v kept ≡ f.value (replay es).header
 field-shown f es v kept wins rises sizes start was =
     inside (value_or v kept) (f.value (replay es).header)
     (sym (wins es rises sizes ∙ ap (λ x. latest_or (Some x) (latest_in (of_header f) (taken es))) start ∙ ap (latest_or (Some v)) (sym was) ∙ latest-value v kept))
@@ -135,7 +139,8 @@ pub replay_is_shown : ReadIsNormal → ReplayIsShown
 replay_is_shown normal es h rises sizes was =
     let r = (replay es).header in
     let a = shown h in
-    let saves : a.saved ≡ r.saved = field-shown saved es empty_header.saved h.saved (header-wins saved is_saved normal) rises sizes refl was.saved in
+    let saves : a.saved ≡ r.saved =
+    field-shown saved es empty_header.saved h.saved (header-wins saved is_saved normal) rises sizes refl was.saved in
     let current : a.current_board ≡ r.current_board = field-shown current_board es empty_header.current_board h.current_board (header-wins current_board is_current_board normal) rises sizes refl was.current_board in
     let name : a.world_name ≡ r.world_name = field-shown world_name es empty_header.world_name h.world_name (header-wins world_name is_world_name normal) rises sizes refl was.world_name in
     let path : make a.numbers a.keys a.saved a.current_board a.world_name a.flags ≡ make r.numbers r.keys r.saved r.current_board r.world_name r.flags =

@@ -69,11 +69,13 @@ or-true false = refl
 -- ---- what an edit makes
 
 -- no stat is made removed
-opened-stays : (s : Stamp) (m t : ℕ) (b : BoardData) (j : ℕ) (xs : List StatData) → AllByRecursion (λ (y : Stat). y.removed ≡ false) (map_from (opened_stat s m t b) j xs)
+opened-stays : (s : Stamp) (m t : ℕ) (b : BoardData) (j : ℕ) (xs : List StatData)
+    → AllByRecursion (λ (y : Stat). y.removed ≡ false) (map_from (opened_stat s m t b) j xs)
 opened-stays s m t b j [] = tt
 opened-stays s m t b j (x ∷ xs) = (refl, opened-stays s m t b (j + 1) xs)
 
-opened-stay : (s : Stamp) (n m t : ℕ) (bs : List BoardData) → AllByRecursion (λ (y : Stat). y.removed ≡ false) (stats_of (opened_boards_from s n m t bs))
+opened-stay : (s : Stamp) (n m t : ℕ) (bs : List BoardData)
+    → AllByRecursion (λ (y : Stat). y.removed ≡ false) (stats_of (opened_boards_from s n m t bs))
 opened-stay s n m t [] = tt
 opened-stay s n m t (b ∷ bs) =
     all_joined (λ (y : Stat). y.removed ≡ false) (map_from (opened_stat s m t b) 0 b.stats) (stats_of (opened_boards_from s (n + 1) (m + length b.stats) (t + programs_before (length b.stats) b.stats) bs))
@@ -131,7 +133,8 @@ module _ (marks plays : Edit → Option Bool) (gone : Edit → Bool) where
   no-plays v [] a = refl
   no-plays v (e ∷ es) a = rw a.0 (no-plays v es a.1)
 
-  follows : (v : Bool) (es : List Edit) → Kinds es → last_value v (writes_of marks es) ≡ (last_value v (writes_of plays es) || list_any gone es)
+  follows : (v : Bool) (es : List Edit) → Kinds es
+      → last_value v (writes_of marks es) ≡ (last_value v (writes_of plays es) || list_any gone es)
   follows v [] k = or-none v
   follows v (e ∷ es) k =
       elim k.0 [
@@ -163,10 +166,13 @@ module _ (x : StatId) where
       either false o = refl
 
   unmade-marks : (e : Edit) → find_stat x (made_stats e.stamp e.op) ≡ None → marks e ≡ cond (gone e) (Some true) None
-  unmade-marks e is = ap (λ m. option_or (option_map removed_or_player.value m) (cond (changes_stat x e.op) (removed_or_player.set e.op) None)) is ∙ set-marks e.op
+  unmade-marks e is =
+      ap (λ m. option_or (option_map removed_or_player.value m) (cond (changes_stat x e.op) (removed_or_player.set e.op) None)) is
+      ∙ set-marks e.op
 
   unmade-plays : (e : Edit) → find_stat x (made_stats e.stamp e.op) ≡ None → plays e ≡ None
-  unmade-plays e is = ap (λ m. option_or (option_map is_player.value m) (cond (changes_stat x e.op) None None)) is ∙ either (changes_stat x e.op) None
+  unmade-plays e is =
+      ap (λ m. option_or (option_map is_player.value m) (cond (changes_stat x e.op) None None)) is ∙ either (changes_stat x e.op) None
     where
       either : (b : Bool) (o : Option Bool) → cond b o o ≡ o
       either true o = refl
@@ -180,7 +186,8 @@ module _ (x : StatId) where
       go None is = refl
       go (Some made) is = absurd (true≢false (sym h ∙ ap (λ t. before t e.stamp) (made-stamp x e made is) ∙ before_irrefl e.stamp))
 
-  all-unmade : (e : Edit) (es : List Edit) → before x.name.stamp e.stamp ≡ true → AllByRecursion (λ f. before e.stamp f.stamp ≡ true) es → AllByRecursion (λ f. plays f ≡ None) es
+  all-unmade : (e : Edit) (es : List Edit) → before x.name.stamp e.stamp ≡ true → AllByRecursion (λ f. before e.stamp f.stamp ≡ true) es
+      → AllByRecursion (λ f. plays f ≡ None) es
   all-unmade e [] h a = tt
   all-unmade e (f ∷ es) h a = (later-unmade f (before_trans x.name.stamp e.stamp f.stamp h a.0), all-unmade e es h a.1)
 
@@ -241,17 +248,21 @@ mark-of true false a h e = sym e
 mark-of false false a h e = sym e
 
 module _ (normal : ReadIsNormal) (x : StatId) (es : List Edit) (stat : Stat) (rises : IsRising es) (sizes : HaveSizes es) (there : find_stat x (all_stats (replay es)) ≡ Some stat) where
-  read : {V : Type 0} (f : Field Stat V) → GreatestStampWins (of_stat x f) → Some (f.value stat) ≡ latest_or None (latest_in (of_stat x f) (taken es))
+  read : {V : Type 0} (f : Field Stat V) → GreatestStampWins (of_stat x f)
+      → Some (f.value stat) ≡ latest_or None (latest_in (of_stat x f) (taken es))
   read f wins = sym (ap (option_map f.value) there) ∙ wins es rises sizes
 
-  field-shown : {V : Type 0} (f : Field Stat V) (v : V) (at : Stamp) → GreatestStampWins (of_stat x f) → Some (written_at at v) ≡ latest_in (of_stat x f) (taken es) → v ≡ f.value stat
+  field-shown : {V : Type 0} (f : Field Stat V) (v : V) (at : Stamp) → GreatestStampWins (of_stat x f)
+      → Some (written_at at v) ≡ latest_in (of_stat x f) (taken es)
+      → v ≡ f.value stat
   field-shown f v at wins was = inside v (f.value stat) (sym (read f wins ∙ ap (latest_or None) (sym was)))
 
   is_whole : IsWholeStat stat
   is_whole = found-holds IsWholeStat (λ y. same_stat y.id x) (all_stats (replay es)) (whole-stats (replay es).boards (replay_whole normal es sizes).boards) stat there
 
   -- the last value that edits write
-  last-read : (f : Field Stat Bool) → GreatestStampWins (of_stat x f) → last_value false (writes_of (of_stat x f).writes (taken es)) ≡ f.value stat
+  last-read : (f : Field Stat Bool) → GreatestStampWins (of_stat x f)
+      → last_value false (writes_of (of_stat x f).writes (taken es)) ≡ f.value stat
   last-read f wins =
       sym (latest_of-rising false (writes_of (of_stat x f).writes (taken es)) (writes-rising (of_stat x f).writes (taken es) (taken-rising empty_document es rises)))
       ∙ latest-value false (f.value stat) (latest_in (of_stat x f) (taken es)) (read f wins)
@@ -273,7 +284,9 @@ abbrev stat_named : Name → StatId
 stat_named n = record { name = n }
 
 module _ (normal : ReadIsNormal) (x : StatId) (es : List Edit) (s : LiveStat) (stat : Stat) (rises : IsRising es) (fits : AllFit es) (sizes : HaveSizes es) (there : find_stat x (all_stats (replay es)) ≡ Some stat) (was : StatShows x (taken es) s) where
-  shown : {V : Type 0} (f : Field Stat V) (v : V) (at : Stamp) → GreatestStampWins (of_stat x f) → Some (written_at at v) ≡ latest_in (of_stat x f) (taken es) → v ≡ f.value stat
+  shown : {V : Type 0} (f : Field Stat V) (v : V) (at : Stamp) → GreatestStampWins (of_stat x f)
+      → Some (written_at at v) ≡ latest_in (of_stat x f) (taken es)
+      → v ≡ f.value stat
   shown f v at wins h = field-shown normal x es stat rises sizes there f v at wins h
 
   bytes-shown : s.values.fields.bytes ≡ stat.fields.bytes
@@ -311,7 +324,8 @@ replayed_stat_is_shown normal x es s stat rises fits sizes there was =
     let text : s.values.fields.text ≡ stat.fields.text = shown normal x es s stat rises fits sizes there was stat_text s.values.fields.text _ (stat-wins stat_text is_text x normal) was.text in
     let position : s.values.position ≡ stat.position = shown normal x es s stat rises fits sizes there was (stat_number Position) s.values.position _ (stat-wins (stat_number Position) (is_number Position) x normal) (was.numbers Position) in
     let follows_it : s.values.follower ≡ stat.follower = shown normal x es s stat rises fits sizes there was follower s.values.follower _ (stat-wins follower is_follower x normal) was.follower in
-    let leads_it : s.values.leader ≡ stat.leader = shown normal x es s stat rises fits sizes there was leader s.values.leader _ (stat-wins leader is_leader x normal) was.leader in
+    let leads_it : s.values.leader ≡ stat.leader =
+    shown normal x es s stat rises fits sizes there was leader s.values.leader _ (stat-wins leader is_leader x normal) was.leader in
     let fields : fields_of s.values.fields.bytes s.values.fields.numbers s.values.fields.p3 s.values.fields.text ≡ fields_of stat.fields.bytes stat.fields.numbers stat.fields.p3 stat.fields.text =
     ap (λ b. fields_of b s.values.fields.numbers s.values.fields.p3 s.values.fields.text) (bytes-shown normal x es s stat rises fits sizes there was)
     ∙ ap (λ n. fields_of stat.fields.bytes n s.values.fields.p3 s.values.fields.text) (numbers-shown normal x es s stat rises fits sizes there was)

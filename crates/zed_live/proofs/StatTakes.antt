@@ -42,26 +42,33 @@ abbrev map_value : {U V : Type 0} → (U → V) → Option (Written U) → Optio
 map_value f None = None
 map_value f (Some w) = Some (written_at w.stamp (f w.value))
 
-kept-mapped : {U V : Type 0} (f : U → V) (k w : Written U) → map_value f (keep_later (Some k) w) ≡ keep_later (Some (written_at k.stamp (f k.value))) (written_at w.stamp (f w.value))
+kept-mapped : {U V : Type 0} (f : U → V) (k w : Written U)
+    → map_value f (keep_later (Some k) w) ≡ keep_later (Some (written_at k.stamp (f k.value))) (written_at w.stamp (f w.value))
 kept-mapped {V = V} f k w = go (before k.stamp w.stamp)
   where
-    go : (b : Bool) → map_value f (cond b (Some w) (Some k)) ≡ cond b (Some (written_at w.stamp (f w.value))) (Some (written_at k.stamp (f k.value)))
+    go : (b : Bool)
+        → map_value f (cond b (Some w) (Some k)) ≡ cond b (Some (written_at w.stamp (f w.value))) (Some (written_at k.stamp (f k.value)))
     go true = refl
     go false = refl
 
 module _ {V : Type 0} (latest : FieldsHoldTheLatest) (value : StatSetting → V) (f : StatField) where
   -- the field keeps the later of what it has and the setting, if that is of it
   field-after : (at : Stamp) (w : StatSetting) (s : LiveStat) → IsWhole s
-      → held_as f (value (value_of f (write at w s).values)) (write at w s) ≡ kept_after at (held_as f (value (value_of f s.values)) s) (of_field value f w)
-  field-after at w s whole = ap (map_value value) (latest f (written_at at w ∷ []) s whole) ∙ go (eqb (field_number (field_of w)) (field_number f)) refl
+      → held_as f (value (value_of f (write at w s).values)) (write at w s)
+      ≡ kept_after at (held_as f (value (value_of f s.values)) s) (of_field value f w)
+  field-after at w s whole =
+      ap (map_value value) (latest f (written_at at w ∷ []) s whole) ∙ go (eqb (field_number (field_of w)) (field_number f)) refl
     where
-      go : (b : Bool) → eqb (field_number (field_of w)) (field_number f) ≡ b → map_value value (latest_of (Some (held f s)) (writes_of f (written_at at w ∷ []))) ≡ kept_after at (held_as f (value (value_of f s.values)) s) (cond b (Some (value w)) None)
+      go : (b : Bool) → eqb (field_number (field_of w)) (field_number f) ≡ b
+          → map_value value (latest_of (Some (held f s)) (writes_of f (written_at at w ∷ [])))
+          ≡ kept_after at (held_as f (value (value_of f s.values)) s) (cond b (Some (value w)) None)
       go true b = rw b (kept-mapped value (held f s) (written_at at w))
       go false b = rw b refl
 
 -- ---- what an edit writes
 
-untouched-parts : (x : StatId) (e : Edit) → touches_stat x e ≡ false → (find_stat x (made_stats e.stamp e.op) ≡ None) × (changes_stat x e.op ≡ false)
+untouched-parts : (x : StatId) (e : Edit) → touches_stat x e ≡ false
+    → (find_stat x (made_stats e.stamp e.op) ≡ None) × (changes_stat x e.op ≡ false)
 untouched-parts x e h =
     let p = or_parts (is_some (find_stat x (made_stats e.stamp e.op))) (changes_stat x e.op) h in
     (none_is (find_stat x (made_stats e.stamp e.op)) p.0, p.1)
@@ -78,14 +85,18 @@ module _ {V : Type 0} (f : Field Stat V) (x : StatId) where
   none-latest (e ∷ es) a = rw (beside-writes e a.0) (none-latest es a.1)
 
   -- what an edit doesn't write stays
-  keeps : (e : Edit) (low high : List Edit) (kept : Option (Written V)) → IsRising (low ++ e ∷ high) → (of_stat x f).writes e ≡ None → kept ≡ latest_in (of_stat x f) (low ++ high) → kept ≡ latest_in (of_stat x f) (low ++ e ∷ high)
-  keeps e low high kept rises none was = put-late (of_stat x f) e low high kept kept rises was (wrote (of_stat x f) e kept kept None none refl)
+  keeps : (e : Edit) (low high : List Edit) (kept : Option (Written V)) → IsRising (low ++ e ∷ high) → (of_stat x f).writes e ≡ None
+      → kept ≡ latest_in (of_stat x f) (low ++ high)
+      → kept ≡ latest_in (of_stat x f) (low ++ e ∷ high)
+  keeps e low high kept rises none was =
+      put-late (of_stat x f) e low high kept kept rises was (wrote (of_stat x f) e kept kept None none refl)
 
   made-writes : (e : Edit) (made : Stat) → find_stat x (made_stats e.stamp e.op) ≡ Some made → (of_stat x f).writes e ≡ Some (f.value made)
   made-writes e made is = ap (λ m. option_or (option_map f.value m) (cond (changes_stat x e.op) (f.set e.op) None)) is
 
   -- the making of a stat that nothing else touches is the latest write
-  written-first : (e : Edit) (made : Stat) (low high : List Edit) → IsRising (low ++ e ∷ high) → find_stat x (made_stats e.stamp e.op) ≡ Some made → AllByRecursion (λ g. touches_stat x g ≡ false) (low ++ high)
+  written-first : (e : Edit) (made : Stat) (low high : List Edit) → IsRising (low ++ e ∷ high)
+      → find_stat x (made_stats e.stamp e.op) ≡ Some made → AllByRecursion (λ g. touches_stat x g ≡ false) (low ++ high)
       → Some (written_at e.stamp (f.value made)) ≡ latest_in (of_stat x f) (low ++ e ∷ high)
   written-first e made low high rises is none =
       put-late (of_stat x f) e low high None (Some (written_at e.stamp (f.value made))) rises (sym (none-latest (low ++ high) none))
@@ -98,7 +109,8 @@ module _ {V : Type 0} (latest : FieldsHoldTheLatest) (value : StatSetting → V)
       → same_stat y x ≡ true
       → IsWhole s
       → held_as f (value (value_of f s.values)) s ≡ latest_in (of_stat x (record { value = read; set = by_stat give })) (low ++ high)
-      → held_as f (value (value_of f (write at w s).values)) (write at w s) ≡ latest_in (of_stat x (record { value = read; set = by_stat give })) (low ++ record { stamp = at; op = SetStat y w } ∷ high)
+      → held_as f (value (value_of f (write at w s).values)) (write at w s)
+      ≡ latest_in (of_stat x (record { value = read; set = by_stat give })) (low ++ record { stamp = at; op = SetStat y w } ∷ high)
   setting-put x y at w low high s rises is whole was =
       let e : Edit = record { stamp = at; op = SetStat y w } in
       let r : Register V = of_stat x (record { value = read; set = by_stat give }) in
@@ -109,9 +121,12 @@ module _ {V : Type 0} (latest : FieldsHoldTheLatest) (value : StatSetting → V)
 
 -- ---- the mark, and what stays
 
-any-insert : (x : StatId) (low : List Edit) (e : Edit) (high : List Edit) → list_any (λ f. removes x f.op) (low ++ e ∷ high) ≡ (removes x e.op || list_any (λ f. removes x f.op) (low ++ high))
+any-insert : (x : StatId) (low : List Edit) (e : Edit) (high : List Edit)
+    → list_any (λ f. removes x f.op) (low ++ e ∷ high) ≡ (removes x e.op || list_any (λ f. removes x f.op) (low ++ high))
 any-insert x [] e high = refl
-any-insert x (f ∷ low) e high = ap (λ v. removes x f.op || v) (any-insert x low e high) ∙ swap (removes x f.op) (removes x e.op) (list_any (λ g. removes x g.op) (low ++ high))
+any-insert x (f ∷ low) e high =
+    ap (λ v. removes x f.op || v) (any-insert x low e high)
+    ∙ swap (removes x f.op) (removes x e.op) (list_any (λ g. removes x g.op) (low ++ high))
   where
     swap : (a b c : Bool) → (a || (b || c)) ≡ (b || (a || c))
     swap true true c = refl
@@ -119,7 +134,9 @@ any-insert x (f ∷ low) e high = ap (λ v. removes x f.op || v) (any-insert x l
     swap false b c = refl
 
 -- an edit that doesn't remove the stat leaves the mark
-mark-kept : (x : StatId) (e : Edit) (low high : List Edit) (m p : Bool) → removes x e.op ≡ false → m ≡ (not p && list_any (λ f. removes x f.op) (low ++ high)) → m ≡ (not p && list_any (λ f. removes x f.op) (low ++ e ∷ high))
+mark-kept : (x : StatId) (e : Edit) (low high : List Edit) (m p : Bool) → removes x e.op ≡ false
+    → m ≡ (not p && list_any (λ f. removes x f.op) (low ++ high))
+    → m ≡ (not p && list_any (λ f. removes x f.op) (low ++ e ∷ high))
 mark-kept x e low high m p h was =
     was ∙ ap (λ v. not p && v) (sym (any-insert x low e high ∙ ap (λ v. v || list_any (λ f. removes x f.op) (low ++ high)) h))
 
@@ -151,7 +168,9 @@ abbrev edit_of : Stamp → Op → Edit
 edit_of s op = record { stamp = s; op = op }
 
 module _ (latest : FieldsHoldTheLatest) where
-  op-takes : (x : StatId) (at : Stamp) (op : Op) (low high : List Edit) (s : LiveStat) → IsRising (low ++ edit_of at op ∷ high) → changes_stat x op ≡ true → StatShows x (low ++ high) s → StatShows x (low ++ edit_of at op ∷ high) (stat_after at op s)
+  op-takes : (x : StatId) (at : Stamp) (op : Op) (low high : List Edit) (s : LiveStat) → IsRising (low ++ edit_of at op ∷ high)
+      → changes_stat x op ≡ true → StatShows x (low ++ high) s
+      → StatShows x (low ++ edit_of at op ∷ high) (stat_after at op s)
   op-takes x at (SetStat y w) low high s rises h was = record {
     whole = whole_write at w s was.whole;
     bytes = λ f. setting-put latest byte_in (field.Byte f) (λ z. (stat_byte f).value z) (stat_byte_set f) (byte-set f) x y at w low high s rises h was.whole (was.bytes f);
@@ -214,7 +233,9 @@ byte-stamp p at made P2 = refl
 byte-stamp p at made UnderElement = refl
 byte-stamp p at made UnderColour = refl
 
-number-held : (p : Bool) (at : Stamp) (made : Stat) (f : StatNumber) → held_as (field.Number f) (number_at (stat_number_index f) (values_of made)) (new_stat p at (values_of made)) ≡ Some (written_at at ((stat_number f).value made))
+number-held : (p : Bool) (at : Stamp) (made : Stat) (f : StatNumber)
+    → held_as (field.Number f) (number_at (stat_number_index f) (values_of made)) (new_stat p at (values_of made))
+    ≡ Some (written_at at ((stat_number f).value made))
 number-held p at made StepX = refl
 number-held p at made StepY = refl
 number-held p at made Cycle = refl
@@ -222,7 +243,8 @@ number-held p at made Position = refl
 
 none-removed : (x : StatId) (es : List Edit) → AllByRecursion (λ f. touches_stat x f ≡ false) es → list_any (λ f. removes x f.op) es ≡ false
 none-removed x [] a = refl
-none-removed x (e ∷ es) a = ap (λ v. v || list_any (λ f. removes x f.op) es) (none-removes x e.op (untouched-parts x e a.0).1) ∙ none-removed x es a.1
+none-removed x (e ∷ es) a =
+    ap (λ v. v || list_any (λ f. removes x f.op) es) (none-removes x e.op (untouched-parts x e a.0).1) ∙ none-removed x es a.1
 
 -- an edit that makes a stat removes none
 pub made-removes : (x : StatId) (s : Stamp) (op : Op) (made : Stat) → find_stat x (made_stats s op) ≡ Some made → removes x op ≡ false

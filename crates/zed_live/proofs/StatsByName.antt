@@ -38,16 +38,20 @@ only_stat a b e = ap stat_at e
 abbrev pub as_live : Stat → LiveStat
 as_live y = new_stat y.is_player y.id.name.stamp (values_of y)
 
-pub in-add_made : (b : StatId) (y : Stat) (ys : Entries) → stat_in b (add_made y ys) ≡ option_or (stat_in b ys) (cond (same_stat b y.id) (Some (as_live y)) None)
+pub in-add_made : (b : StatId) (y : Stat) (ys : Entries)
+    → stat_in b (add_made y ys) ≡ option_or (stat_in b ys) (cond (same_stat b y.id) (Some (as_live y)) None)
 in-add_made b y ys = in-add stat_name only_stat b y.id (as_live y) ys
 
 -- after many are added
-pub in-add_each : (b : StatId) (xs : List Stat) (ys : Entries) → stat_in b (add_each xs ys) ≡ option_or (stat_in b ys) (option_map as_live (find_stat b xs))
+pub in-add_each : (b : StatId) (xs : List Stat) (ys : Entries)
+    → stat_in b (add_each xs ys) ≡ option_or (stat_in b ys) (option_map as_live (find_stat b xs))
 in-add_each b [] ys = or-none (stat_in b ys)
 in-add_each b (x ∷ xs) ys =
     in-add_each b xs (add_made x ys) ∙ ap (λ o. option_or o (option_map as_live (find_stat b xs))) (in-add_made b x ys) ∙ go (stat_in b ys) (same_stat b x.id) refl
   where
-    go : (o : Option LiveStat) (w : Bool) → same_stat b x.id ≡ w → option_or (option_or o (cond w (Some (as_live x)) None)) (option_map as_live (find_stat b xs)) ≡ option_or o (option_map as_live (cond (same_stat x.id b) (Some x) (find_stat b xs)))
+    go : (o : Option LiveStat) (w : Bool) → same_stat b x.id ≡ w
+        → option_or (option_or o (cond w (Some (as_live x)) None)) (option_map as_live (find_stat b xs))
+        ≡ option_or o (option_map as_live (cond (same_stat x.id b) (Some x) (find_stat b xs)))
     go (Some z) w is = refl
     go None true is =
         let k : same_stat x.id b ≡ true = ap (λ d. same_stat d b) (sym (stat-true b x.id is)) ∙ stat-itself b in
@@ -62,7 +66,9 @@ pub find-shown : (b : StatId) (ys : Entries) → find_stat b (shown_stats ys) �
 find-shown b [] = refl
 find-shown b (y ∷ ys) = go (same_stat b y.0) refl (find-shown b ys)
   where
-    go : (v : Bool) → same_stat b y.0 ≡ v → find_stat b (shown_stats ys) ≡ option_map (shown_stat b) (stat_in b ys) → cond (same_stat y.0 b) (Some (shown_stat y.0 y.1)) (find_stat b (shown_stats ys)) ≡ option_map (shown_stat b) (cond v (Some y.1) (stat_in b ys))
+    go : (v : Bool) → same_stat b y.0 ≡ v → find_stat b (shown_stats ys) ≡ option_map (shown_stat b) (stat_in b ys)
+        → cond (same_stat y.0 b) (Some (shown_stat y.0 y.1)) (find_stat b (shown_stats ys))
+        ≡ option_map (shown_stat b) (cond v (Some y.1) (stat_in b ys))
     go true v more =
         let i = stat-true b y.0 v in
         let w : same_stat y.0 b ≡ true = ap (λ d. same_stat d b) (sym i) ∙ stat-itself b in

@@ -50,8 +50,10 @@ held_as f v s = Some (written_at (stamp_of f s) v)
 -- each field of a stat has the latest write of these edits, and it is removed where one of them removes it and it is no player
 pub record StatShows (x : StatId) (es : List Edit) (s : LiveStat) : Type 0 where
   pub whole : IsWhole s
-  pub bytes : (f : StatByte) → held_as (Byte f) (slice_index_or s.values.fields.bytes (stat_byte_index f) 0) s ≡ latest_in (of_stat x (stat_byte f)) es
-  pub numbers : (f : StatNumber) → held_as (Number f) (number_at (stat_number_index f) s.values) s ≡ latest_in (of_stat x (stat_number f)) es
+  pub bytes : (f : StatByte)
+      → held_as (Byte f) (slice_index_or s.values.fields.bytes (stat_byte_index f) 0) s ≡ latest_in (of_stat x (stat_byte f)) es
+  pub numbers : (f : StatNumber)
+      → held_as (Number f) (number_at (stat_number_index f) s.values) s ≡ latest_in (of_stat x (stat_number f)) es
   pub p3 : held_as P3 s.values.fields.p3 s ≡ latest_in (of_stat x third_parameter) es
   pub follower : held_as Follower s.values.follower s ≡ latest_in (of_stat x follower) es
   pub leader : held_as Leader s.values.leader s ≡ latest_in (of_stat x leader) es

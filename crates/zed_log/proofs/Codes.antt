@@ -32,24 +32,30 @@ ended f w stop code a b x y p q h =
     (r.0, append_cancel_left w x y r.1)
 
 -- two fields and a word between them
-pub two : {A B : Type 0} (f : A → List ℕ) (w : List ℕ) (g : B → List ℕ) → StopsAll w → IsCode f → IsCode g → IsCode (λ (p : A × B). f p.0 ++ (w ++ g p.1))
+pub two : {A B : Type 0} (f : A → List ℕ) (w : List ℕ) (g : B → List ℕ) → StopsAll w → IsCode f → IsCode g
+    → IsCode (λ (p : A × B). f p.0 ++ (w ++ g p.1))
 two {A} {B} f w g stop first second a b x y p q h =
-    let e : f a.0 ++ ((w ++ g a.1) ++ x) ≡ f b.0 ++ ((w ++ g b.1) ++ y) = sym (append_assoc (f a.0) (w ++ g a.1) x) ∙ h ∙ append_assoc (f b.0) (w ++ g b.1) y in
-    let k : f a.0 ++ (w ++ (g a.1 ++ x)) ≡ f b.0 ++ (w ++ (g b.1 ++ y)) = ap (λ (t : List ℕ). f a.0 ++ t) (sym (append_assoc w (g a.1) x)) ∙ e ∙ ap (λ (t : List ℕ). f b.0 ++ t) (append_assoc w (g b.1) y) in
+    let e : f a.0 ++ ((w ++ g a.1) ++ x) ≡ f b.0 ++ ((w ++ g b.1) ++ y) =
+    sym (append_assoc (f a.0) (w ++ g a.1) x) ∙ h ∙ append_assoc (f b.0) (w ++ g b.1) y in
+    let k : f a.0 ++ (w ++ (g a.1 ++ x)) ≡ f b.0 ++ (w ++ (g b.1 ++ y)) =
+    ap (λ (t : List ℕ). f a.0 ++ t) (sym (append_assoc w (g a.1) x)) ∙ e ∙ ap (λ (t : List ℕ). f b.0 ++ t) (append_assoc w (g b.1) y) in
     let r = first a.0 b.0 (w ++ (g a.1 ++ x)) (w ++ (g b.1 ++ y)) (stop (g a.1 ++ x)) (stop (g b.1 ++ y)) k in
     let s = second a.1 b.1 x y p q (append_cancel_left w (g a.1 ++ x) (g b.1 ++ y) r.1) in
     let same : a ≡ b = ap (λ (k : A). let made : A × B = (k, a.1) in made) r.0 ∙ ap (λ (k : B). let made : A × B = (b.0, k) in made) s.0 in
     (same, s.1)
 
 -- the same, where the word belongs to the first
-pub joined : {A B : Type 0} (f : A → List ℕ) (w : List ℕ) (g : B → List ℕ) → StopsAll w → IsCode f → IsCode g → IsCode (λ (p : A × B). (f p.0 ++ w) ++ g p.1)
+pub joined : {A B : Type 0} (f : A → List ℕ) (w : List ℕ) (g : B → List ℕ) → StopsAll w → IsCode f → IsCode g
+    → IsCode (λ (p : A × B). (f p.0 ++ w) ++ g p.1)
 joined f w g stop first second a b x y p q h =
     let l = ap (λ (t : List ℕ). t ++ x) (append_assoc (f a.0) w (g a.1)) in
     let r = ap (λ (t : List ℕ). t ++ y) (append_assoc (f b.0) w (g b.1)) in
     two f w g stop first second a b x y p q (sym l ∙ h ∙ r)
 
 -- what has the parts of a code
-pub through : {A B : Type 0} (f : A → List ℕ) (g : B → List ℕ) (to : A → B) (from : B → A) → ((a : A) → from (to a) ≡ a) → ((a : A) → f a ≡ g (to a)) → IsCode g → IsCode f
+pub through : {A B : Type 0} (f : A → List ℕ) (g : B → List ℕ) (to : A → B) (from : B → A) → ((a : A) → from (to a) ≡ a)
+    → ((a : A) → f a ≡ g (to a)) → IsCode g
+    → IsCode f
 through f g to from back same code a b x y p q h =
     let e : g (to a) ++ x ≡ g (to b) ++ y = ap (λ (t : List ℕ). t ++ x) (sym (same a)) ∙ h ∙ ap (λ (t : List ℕ). t ++ y) (same b) in
     let r = code (to a) (to b) x y p q e in
@@ -81,7 +87,8 @@ worded {A} {B} f g first second a b x y p q h =
     (same, s.1)
 
 -- what is known by a part that has a code
-pub known : {A B : Type 0} (f : A → B) (pick : B → Option A) (g : B → List ℕ) → ((a : A) → pick (f a) ≡ Some a) → IsCode g → IsCode (λ (a : A). g (f a))
+pub known : {A B : Type 0} (f : A → B) (pick : B → Option A) (g : B → List ℕ) → ((a : A) → pick (f a) ≡ Some a) → IsCode g
+    → IsCode (λ (a : A). g (f a))
 known f pick g back code a b x y p q h =
     let r = code (f a) (f b) x y p q h in
     (some_is a b (sym (back a) ∙ ap pick r.0 ∙ back b), r.1)

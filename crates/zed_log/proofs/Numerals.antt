@@ -15,7 +15,9 @@ true_is_not : (b : Bool) → b ≡ true → b ≡ false → ⊥
 true_is_not b h k = absurd cc
 
 -- two runs that pass a test, with something behind them that doesn't
-pub split : (p : ℕ → Bool) (ds es x y : List ℕ) → Each p ds → Each p es → p (get_or x 0 0) ≡ false → p (get_or y 0 0) ≡ false → ds ++ x ≡ es ++ y → (ds ≡ es) × (x ≡ y)
+pub split : (p : ℕ → Bool) (ds es x y : List ℕ) → Each p ds → Each p es → p (get_or x 0 0) ≡ false → p (get_or y 0 0) ≡ false
+    → ds ++ x ≡ es ++ y
+    → (ds ≡ es) × (x ≡ y)
 split p [] [] x y a b s t h = (refl, h)
 split p [] (e ∷ es) x y a b s t h =
     absurd (true_is_not (p (get_or x 0 0)) (ap (λ (l : List ℕ). p (get_or l 0 0)) h ∙ b.0) s)

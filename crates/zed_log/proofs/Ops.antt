@@ -62,7 +62,8 @@ inserted_code : IsCode (λ (p : (TextId × Option ElemId) × List ℕ). ((codes 
 inserted_code =
     two (λ (p : TextId × Option ElemId). (codes "insert text " ++ text_name p.0) ++ (32 ∷ after_text p.1)) (32 ∷ []) quoted (λ t. refl) (two (λ (t : TextId). codes "insert text " ++ text_name t) (32 ∷ []) after_text (λ t. refl) (led (codes "insert text ") text_name text_code) after_code) quoted_code
 
-stat_text : (b : BoardId) (f : StatFields) (x : List ℕ) → op_text (StatAdd b f) ++ x ≡ (codes "add stat board " ++ board_name b) ++ (32 ∷ (stat_fields f ++ x))
+stat_text : (b : BoardId) (f : StatFields) (x : List ℕ)
+    → op_text (StatAdd b f) ++ x ≡ (codes "add stat board " ++ board_name b) ++ (32 ∷ (stat_fields f ++ x))
 stat_text b f x = append_assoc (codes "add stat board " ++ board_name b) (32 ∷ stat_fields f) x
 
 -- ---- ops
@@ -106,12 +107,14 @@ stamp_text p = number p.0 ++ (32 ∷ number p.1)
 pub stamp_text_code : IsCode stamp_text
 stamp_text_code = two number (32 ∷ []) number (λ t. refl) number_code number_code
 
-pub parts_at : (l : Length) (e : Edit) (x : List ℕ) → text_at l e ++ x ≡ stamp_text (e.stamp.time, e.stamp.replica) ++ (codes "  " ++ (op_at l e.op ++ (10 ∷ x)))
+pub parts_at : (l : Length) (e : Edit) (x : List ℕ)
+    → text_at l e ++ x ≡ stamp_text (e.stamp.time, e.stamp.replica) ++ (codes "  " ++ (op_at l e.op ++ (10 ∷ x)))
 unfolding text_at
 parts_at l e x =
     append_assoc (stamp_text (e.stamp.time, e.stamp.replica) ++ (codes "  " ++ op_at l e.op)) (10 ∷ []) x ∙ append_assoc (stamp_text (e.stamp.time, e.stamp.replica)) (codes "  " ++ op_at l e.op) (10 ∷ x)
 
-pub line_parts : (e : Edit) (x : List ℕ) → line_text e ++ x ≡ stamp_text (e.stamp.time, e.stamp.replica) ++ (codes "  " ++ (op_text e.op ++ (10 ∷ x)))
+pub line_parts : (e : Edit) (x : List ℕ)
+    → line_text e ++ x ≡ stamp_text (e.stamp.time, e.stamp.replica) ++ (codes "  " ++ (op_text e.op ++ (10 ∷ x)))
 line_parts e x = parts_at Full e x
 
 abbrev make : ℕ × ℕ → Op → Edit
@@ -147,7 +150,8 @@ held_is_no_line f x y h =
     held_is_no_time f.stamp.time x tail (h ∙ line_parts f y ∙ append_assoc (number f.stamp.time) (32 ∷ number f.stamp.replica) (codes "  " ++ (op_text f.op ++ (10 ∷ y))))
 
 -- no marked line begins another
-marked_code : (a b : Bool) (e f : Edit) (x y : List ℕ) → IsWhole e.op → IsWhole f.op → marked_line a e ++ x ≡ marked_line b f ++ y → (e ≡ f) × (x ≡ y)
+marked_code : (a b : Bool) (e f : Edit) (x y : List ℕ) → IsWhole e.op → IsWhole f.op → marked_line a e ++ x ≡ marked_line b f ++ y
+    → (e ≡ f) × (x ≡ y)
 marked_code false false e f x y v w h = line_code e f x y v w h
 marked_code false true e f x y v w h = absurd (held_is_no_line e (line_text f ++ y) x (sym h))
 marked_code true false e f x y v w h = absurd (held_is_no_line f (line_text e ++ x) y h)

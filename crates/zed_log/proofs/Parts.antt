@@ -85,7 +85,8 @@ pub digit_or_not : (b : Bool) → b ≡ true → b ≡ false → ⊥
 digit_or_not b h k = absurd cc
 
 -- a name is no `none`
-pub optional_code : {A : Type 0} (f : A → List ℕ) → IsCode f → ((a : A) (x : List ℕ) → is_digit (get_or (f a ++ x) 0 0) ≡ true) → IsCode (optional f)
+pub optional_code : {A : Type 0} (f : A → List ℕ) → IsCode f → ((a : A) (x : List ℕ) → is_digit (get_or (f a ++ x) 0 0) ≡ true)
+    → IsCode (optional f)
 optional_code f code starts None None x y p q h = (refl, ap (drop 4) h)
 optional_code f code starts None (Some b) x y p q h =
     absurd (digit_or_not (is_digit (get_or (f b ++ y) 0 0)) (starts b y) (ap (λ (l : List ℕ). is_digit (get_or l 0 0)) (sym h)))

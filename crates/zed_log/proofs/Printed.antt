@@ -241,7 +241,8 @@ board_is : (s : BoardSetting) → plain (board_setting s) ≡ true
 board_is (board.Byte f n) = both (board_byte_word f) (number n) (board_byte_word_is f) (number_is n)
 board_is (board.Flag f b) = both (board_flag_word f) (boolean b) (board_flag_word_is f) (boolean_is b)
 board_is (board.TimeLimit n) = integer_is n
-board_is (board.Exit d b) = both (side_word d) (optional (λ x. name x.name) b) (side_word_is d) (optional_is (λ x. name x.name) b (λ x. name_is x.name))
+board_is (board.Exit d b) =
+    both (side_word d) (optional (λ x. name x.name) b) (side_word_is d) (optional_is (λ x. name x.name) b (λ x. name_is x.name))
 board_is (board.Text f s) = both (board_text_word f) (quoted s) (board_text_word_is f) (quoted_is s)
 board_is (board.Rank n) = number_is n
 

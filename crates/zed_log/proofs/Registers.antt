@@ -340,7 +340,8 @@ value_code UnderColour = colour_code
 
 stat_bytes_code : IsCode (λ (p : StatByte × ℕ). stat_byte_word p.0 ++ stat_byte p.0 p.1)
 stat_bytes_code a b x y p q h =
-    let e : stat_byte_word a.0 ++ (stat_byte a.0 a.1 ++ x) ≡ stat_byte_word b.0 ++ (stat_byte b.0 b.1 ++ y) = sym (append_assoc (stat_byte_word a.0) (stat_byte a.0 a.1) x) ∙ h ∙ append_assoc (stat_byte_word b.0) (stat_byte b.0 b.1) y in
+    let e : stat_byte_word a.0 ++ (stat_byte a.0 a.1 ++ x) ≡ stat_byte_word b.0 ++ (stat_byte b.0 b.1 ++ y) =
+    sym (append_assoc (stat_byte_word a.0) (stat_byte a.0 a.1) x) ∙ h ∙ append_assoc (stat_byte_word b.0) (stat_byte b.0 b.1) y in
     let r = words stat_byte_word pick_stat_byte stat_byte_back a.0 b.0 (stat_byte a.0 a.1 ++ x) (stat_byte b.0 b.1 ++ y) e in
     let s = value_code b.0 a.1 b.1 x y p q (ap (λ (k : StatByte). stat_byte k a.1 ++ x) (sym r.0) ∙ r.1) in
     let same : a ≡ b = ap (λ (k : StatByte). let made : StatByte × ℕ = (k, a.1) in made) r.0 ∙ ap (λ (k : ℕ). let made : StatByte × ℕ = (b.0, k) in made) s.0 in

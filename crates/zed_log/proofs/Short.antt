@@ -24,7 +24,9 @@ short_world : (s : List ℕ) (op : Op) → short_op (Genesis s) ++ 10 ∷ [] ≡
 unfolding quoted
 short_world s (Genesis t) h =
     let left = append_assoc (codes "genesis " ++ number (length s)) (codes " bytes ..") (10 ∷ []) in
-    let right = append_assoc ((codes "genesis " ++ number (length t)) ++ codes " bytes ") (quoted t) (10 ∷ []) ∙ append_assoc (codes "genesis " ++ number (length t)) (codes " bytes ") (quoted t ++ 10 ∷ []) in
+    let right =
+    append_assoc ((codes "genesis " ++ number (length t)) ++ codes " bytes ") (quoted t) (10 ∷ [])
+    ∙ append_assoc (codes "genesis " ++ number (length t)) (codes " bytes ") (quoted t ++ 10 ∷ []) in
     let r = led (codes "genesis ") number number_code (length s) (length t) (codes " bytes .." ++ 10 ∷ []) (codes " bytes " ++ (quoted t ++ 10 ∷ [])) refl refl (sym left ∙ h ∙ right) in
     absurd (omega (arith, ap (λ (l : List ℕ). get_or l 7 0) r.1))
 short_world s op h = absurd (omega (arith, ap op_kind_at h))

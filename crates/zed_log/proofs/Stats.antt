@@ -43,7 +43,8 @@ same_six a b m n e =
     let all : (k : ℕ) → k < 6 → P k = below_more P 5 (below_more P 4 (below_more P 3 (below_more P 2 (below_more P 1 (below_more P 0 (below_none P) (ap (λ (g : Given). g.0.0.0.0.0) e)) (ap (λ (g : Given). g.0.0.0.0.1) e)) (ap (λ (g : Given). g.0.0.0.1) e)) (ap (λ (g : Given). g.0.0.1) e)) (ap (λ (g : Given). g.0.1) e)) (ap (λ (g : Given). g.1) e) in
     ext_get_or 0 a b (m ∙ sym n) (λ k lt. all k (omega arith))
 
-pub stat_bytes_code : (a b x y : List ℕ) → length a ≡ 6 → length b ≡ 6 → Stops x → Stops y → stat_bytes a ++ x ≡ stat_bytes b ++ y → (a ≡ b) × (x ≡ y)
+pub stat_bytes_code : (a b x y : List ℕ) → length a ≡ 6 → length b ≡ 6 → Stops x → Stops y → stat_bytes a ++ x ≡ stat_bytes b ++ y
+    → (a ≡ b) × (x ≡ y)
 unfolding stat_bytes
 stat_bytes_code a b x y m n p q h =
     let r = given_code (given a) (given b) x y p q h in
@@ -70,7 +71,9 @@ same_three a b m n e =
     let all : (k : ℕ) → k < 3 → P k = below_more P 2 (below_more P 1 (below_more P 0 (below_none P) (ap (λ (g : Steps). g.0.0) e)) (ap (λ (g : Steps). g.0.1) e)) (ap (λ (g : Steps). g.1) e) in
     ext_get_or (pos 0) a b (m ∙ sym n) (λ k lt. all k (omega arith))
 
-pub stat_numbers_code : (a b : List ℤ) (x y : List ℕ) → length a ≡ 3 → length b ≡ 3 → Stops x → Stops y → stat_numbers a ++ x ≡ stat_numbers b ++ y → (a ≡ b) × (x ≡ y)
+pub stat_numbers_code : (a b : List ℤ) (x y : List ℕ) → length a ≡ 3 → length b ≡ 3 → Stops x → Stops y
+    → stat_numbers a ++ x ≡ stat_numbers b ++ y
+    → (a ≡ b) × (x ≡ y)
 unfolding stat_numbers
 stat_numbers_code a b x y m n p q h =
     let r = steps_code (steps a) (steps b) x y p q h in
@@ -89,7 +92,8 @@ regroup : (a p t w o : List ℕ) → (((a ++ p) ++ t) ++ w) ++ o ≡ a ++ ((p ++
 regroup a p t w o =
     append_assoc ((a ++ p) ++ t) w o ∙ ap (λ (k : List ℕ). k ++ (w ++ o)) (append_assoc a p t) ∙ append_assoc a (p ++ t) (w ++ o)
 
-fields_text : (f : StatFields) (x : List ℕ) → stat_fields f ++ x ≡ stat_bytes f.bytes ++ (32 ∷ (stat_numbers f.numbers ++ (targets_text (f.p3, f.text) ++ x)))
+fields_text : (f : StatFields) (x : List ℕ)
+    → stat_fields f ++ x ≡ stat_bytes f.bytes ++ (32 ∷ (stat_numbers f.numbers ++ (targets_text (f.p3, f.text) ++ x)))
 unfolding stat_fields
 fields_text f x =
     let front = stat_bytes f.bytes ++ (32 ∷ stat_numbers f.numbers) in
@@ -98,11 +102,15 @@ fields_text f x =
 abbrev make : List ℕ → List ℤ → ThirdParameter × Option TextId → StatFields
 make b n t = record { bytes = b; numbers = n; p3 = t.0; text = t.1 }
 
-pub stat_fields_code : (f g : StatFields) (x y : List ℕ) → (length f.bytes ≡ 6) × (length f.numbers ≡ 3) → (length g.bytes ≡ 6) × (length g.numbers ≡ 3) → Stops x → Stops y → stat_fields f ++ x ≡ stat_fields g ++ y → (f ≡ g) × (x ≡ y)
+pub stat_fields_code : (f g : StatFields) (x y : List ℕ) → (length f.bytes ≡ 6) × (length f.numbers ≡ 3)
+    → (length g.bytes ≡ 6) × (length g.numbers ≡ 3) → Stops x → Stops y → stat_fields f ++ x ≡ stat_fields g ++ y
+    → (f ≡ g) × (x ≡ y)
 stat_fields_code f g x y m n p q h =
     let e = sym (fields_text f x) ∙ h ∙ fields_text g y in
     let r = stat_bytes_code f.bytes g.bytes (32 ∷ (stat_numbers f.numbers ++ (targets_text (f.p3, f.text) ++ x))) (32 ∷ (stat_numbers g.numbers ++ (targets_text (g.p3, g.text) ++ y))) m.0 n.0 refl refl e in
     let s = stat_numbers_code f.numbers g.numbers (targets_text (f.p3, f.text) ++ x) (targets_text (g.p3, g.text) ++ y) m.1 n.1 refl refl (ap (drop 1) r.1) in
     let t = targets_code (f.p3, f.text) (g.p3, g.text) x y p q s.1 in
-    let same : f ≡ g = ap (λ (b : List ℕ). make b f.numbers (f.p3, f.text)) r.0 ∙ ap (λ (k : List ℤ). make g.bytes k (f.p3, f.text)) s.0 ∙ ap (make g.bytes g.numbers) t.0 in
+    let same : f ≡ g =
+    ap (λ (b : List ℕ). make b f.numbers (f.p3, f.text)) r.0 ∙ ap (λ (k : List ℤ). make g.bytes k (f.p3, f.text)) s.0
+    ∙ ap (make g.bytes g.numbers) t.0 in
     (same, t.1)

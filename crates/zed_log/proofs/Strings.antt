@@ -65,7 +65,8 @@ is_eq a b h = grind (arith, nat_tests)
 abbrev pub escape_with : Bool → Bool → Bool → Bool → ℕ → List ℕ
 escape_with p q r s b = cond p (92 ∷ 34 ∷ []) (cond q (92 ∷ 92 ∷ []) (cond r (92 ∷ 114 ∷ []) (cond s (b ∷ []) (92 ∷ 120 ∷ hex b))))
 
-back_with : (p q r s : Bool) (b : ℕ) (x : List ℕ) → p ≡ eqb b 34 → q ≡ eqb b 92 → r ≡ eqb b 13 → unescape (escape_with p q r s b ++ x) ≡ made b x
+back_with : (p q r s : Bool) (b : ℕ) (x : List ℕ) → p ≡ eqb b 34 → q ≡ eqb b 92 → r ≡ eqb b 13
+    → unescape (escape_with p q r s b ++ x) ≡ made b x
 back_with true q r s b x hp hq hr = ap (λ (c : ℕ). made c x) (sym (is_eq b 34 hp))
 back_with false true r s b x hp hq hr = ap (λ (c : ℕ). made c x) (sym (is_eq b 92 hq))
 back_with false false true s b x hp hq hr = ap (λ (c : ℕ). made c x) (sym (is_eq b 13 hr))

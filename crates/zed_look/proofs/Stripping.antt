@@ -37,7 +37,8 @@ body_lacks a =
     let b = codes "[0;" ++ (if blinks a then codes "5;" else []) in
     let c = b ++ number (ink_code (ink a)) in
     let d = c ++ codes ";" in
-    let first : Lacks 109 b = lacks-append 109 (codes "[0;") (if blinks a then codes "5;" else []) (refl, (refl, (refl, tt))) (blinking_lacks (blinks a)) in
+    let first : Lacks 109 b =
+    lacks-append 109 (codes "[0;") (if blinks a then codes "5;" else []) (refl, (refl, (refl, tt))) (blinking_lacks (blinks a)) in
     let second : Lacks 109 c = lacks-append 109 b (number (ink_code (ink a))) first (number_lacks (ink_code (ink a))) in
     let third : Lacks 109 d = lacks-append 109 c (codes ";") second (refl, tt) in
     lacks-append 109 d (number (40 + hue (paper a))) third (number_lacks (40 + hue (paper a)))
@@ -46,7 +47,8 @@ sgr_goes : (a : ℕ) (x : List ℕ) → stripped false (sgr a ++ x) ≡ stripped
 unfolding sgr
 sgr_goes a x = ap (stripped true) (append_assoc (body a) (109 ∷ []) x) ∙ goes (body a) x (body_lacks a)
 
-unless : (c : Bool) (t x : List ℕ) → stripped false (t ++ x) ≡ stripped false x → stripped false ((if c then [] else t) ++ x) ≡ stripped false x
+unless : (c : Bool) (t x : List ℕ) → stripped false (t ++ x) ≡ stripped false x
+    → stripped false ((if c then [] else t) ++ x) ≡ stripped false x
 unless true t x h = refl
 unless false t x h = h
 
@@ -56,7 +58,8 @@ change_goes (Some b) a x = unless (b == a) (sgr a) x (sgr_goes a x)
 
 -- ---- rows
 
-row_stripped : (before : Option ℕ) (row : List Spot) (x : List ℕ) → stripped false (coloured_row before row ++ x) ≡ plain_row row ++ stripped false x
+row_stripped : (before : Option ℕ) (row : List Spot) (x : List ℕ)
+    → stripped false (coloured_row before row ++ x) ≡ plain_row row ++ stripped false x
 row_stripped before [] x = refl
 row_stripped before (s ∷ row) x =
     let e = change before s.attribute in

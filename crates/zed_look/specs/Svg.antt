@@ -44,7 +44,8 @@ start name x y = codes "<" ++ name ++ attribute (codes "x") x ++ attribute (code
 
 -- what is behind n places of row y from column x on
 unfoldable pub rectangle : ℕ → ℕ → ℕ → ℕ → List ℕ
-rectangle y x n colour = start (codes "rect height='14'") (8 * x) (14 * y) ++ attribute (codes "width") (8 * n) ++ fill colour ++ ended (codes "/>")
+rectangle y x n colour =
+    start (codes "rect height='14'") (8 * x) (14 * y) ++ attribute (codes "width") (8 * n) ++ fill colour ++ ended (codes "/>")
 
 -- a text between the tags of an element of the file
 unfoldable pub content : List ℕ → List ℕ

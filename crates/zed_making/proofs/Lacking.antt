@@ -29,7 +29,8 @@ unfolding written
 has_no_refusal w within = rw within refl
 
 -- where a body is over the limit, that is told
-over_by : (X : Type 0) (text : Result (List ℕ) WorldError) (bytes : List ℕ) (e : WorldError) (told : Refusal) → told ≡ world_refusal e → (e ≡ world.Memory) ⊎ (text ≡ Err e)
+over_by : (X : Type 0) (text : Result (List ℕ) WorldError) (bytes : List ℕ) (e : WorldError) (told : Refusal) → told ≡ world_refusal e
+    → (e ≡ world.Memory) ⊎ (text ≡ Err e)
     → (e ≡ world.Memory → text ≡ Ok bytes) → TellsRefusal {X = X} (refused_as text) (Err told)
 over_by X (Ok x) bytes e told is why within = tt
 over_by X (Err x) bytes e told is why within = elim why [
@@ -37,18 +38,23 @@ over_by X (Err x) bytes e told is why within = elim why [
   | inr over ↦ (let same : x ≡ e = cc in ap (λ y. Err y) (is ∙ ap world_refusal (sym same)))
 ]
 
-pub over_told : (X : Type 0) (w : Contents) (e : WorldError) (told : Refusal) → told ≡ world_refusal e → (e ≡ world.Memory) ⊎ (written READ_BODY_LIMIT w ≡ Err e)
+pub over_told : (X : Type 0) (w : Contents) (e : WorldError) (told : Refusal) → told ≡ world_refusal e
+    → (e ≡ world.Memory) ⊎ (written READ_BODY_LIMIT w ≡ Err e)
     → (e ≡ world.Memory → HasText READ_BODY_LIMIT w) → TellsRefusal {X = X} (refused_as (written READ_BODY_LIMIT w)) (Err told)
-over_told X w e told is why within = over_by X (written READ_BODY_LIMIT w) (world_text w) e told is why (λ lacks. has_no_refusal w (within lacks))
+over_told X w e told is why within =
+    over_by X (written READ_BODY_LIMIT w) (world_text w) e told is why (λ lacks. has_no_refusal w (within lacks))
 
-text_by : {X : Type 0} (text : Result (List ℕ) WorldError) (bytes : List ℕ) (result : Result X Refusal) → text ≡ Ok bytes → TellsRefusal (refused_as text) result
+text_by : {X : Type 0} (text : Result (List ℕ) WorldError) (bytes : List ℕ) (result : Result X Refusal) → text ≡ Ok bytes
+    → TellsRefusal (refused_as text) result
 text_by (Ok x) bytes result is = tt
 text_by (Err x) bytes result is = absurd (cc)
 
-pub text_told : {X : Type 0} (w : Contents) (bytes : List ℕ) (result : Result X Refusal) → written READ_BODY_LIMIT w ≡ Ok bytes → TellsRefusal (refused_as (written READ_BODY_LIMIT w)) result
+pub text_told : {X : Type 0} (w : Contents) (bytes : List ℕ) (result : Result X Refusal) → written READ_BODY_LIMIT w ≡ Ok bytes
+    → TellsRefusal (refused_as (written READ_BODY_LIMIT w)) result
 text_told w bytes result is = text_by (written READ_BODY_LIMIT w) bytes result is
 
 -- a world that was read may be written
-pub read_wants : {X : Type 0} (bytes : List ℕ) (w : Contents) (result : Result X Refusal) → world_at bytes ≡ Ok w → IfErr result (λ e. e ≡ Memory → MayWantMemory bytes)
+pub read_wants : {X : Type 0} (bytes : List ℕ) (w : Contents) (result : Result X Refusal) → world_at bytes ≡ Ok w
+    → IfErr result (λ e. e ≡ Memory → MayWantMemory bytes)
 read_wants bytes w (Ok x) is = tt
 read_wants bytes w (Err e) is = λ lacks. inr (w, is)

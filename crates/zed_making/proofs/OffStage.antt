@@ -30,6 +30,9 @@ pulls_off d (suc n) (link ∷ links) news e pulls = elim pulls [
 pub merged_off : (world count : ℕ) (links news : List LinkSeen) (e : Refusal) → IsMerged world count links news (Err e) → IsOffStage e
 merged_off world count links news e merged = go (nat_lt (length links) count) (Err e) refl merged
   where
-    go : (few : Bool) (r : Result (List Edit) Refusal) → r ≡ Err e → MatchBool few ((r ≡ Err NoLink) × (news ≡ links)) (PullsEach (empty_document world) count links news r) → IsOffStage e
+    go : (few : Bool) (r : Result (List Edit) Refusal) → r ≡ Err e
+        → MatchBool few ((r ≡ Err NoLink) × (news ≡ links)) (PullsEach (empty_document world) count links news r)
+        → IsOffStage e
     go true r same bad = is_off e NoLink (let no = bad.0 in cc) (refl, refl)
-    go false r same pulls = pulls_off (empty_document world) count links news e (subst (λ x. PullsEach (empty_document world) count links news x) same pulls)
+    go false r same pulls =
+        pulls_off (empty_document world) count links news e (subst (λ x. PullsEach (empty_document world) count links news x) same pulls)

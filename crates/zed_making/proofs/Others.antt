@@ -35,7 +35,9 @@ pulls_are_other d (suc n) (link ∷ links) news e pulls is = elim pulls [
 pub merged_is_other : (world count : ℕ) (links news : List LinkSeen) (e : Refusal) → IsMerged world count links news (Err e) → e ≡ File → ⊥
 merged_is_other world count links news e merged is = go (nat_lt (length links) count) (Err e) refl merged
   where
-    go : (few : Bool) (r : Result (List Edit) Refusal) → r ≡ Err e → MatchBool few ((r ≡ Err NoLink) × (news ≡ links)) (PullsEach (empty_document world) count links news r) → ⊥
+    go : (few : Bool) (r : Result (List Edit) Refusal) → r ≡ Err e
+        → MatchBool few ((r ≡ Err NoLink) × (news ≡ links)) (PullsEach (empty_document world) count links news r)
+        → ⊥
     go true r same bad = let no = bad.0 in cc
     go false r same pulls = pulls_are_other (empty_document world) count links news e (subst (λ x. PullsEach (empty_document world) count links news x) same pulls) is
 
@@ -62,7 +64,8 @@ turned d link new links news (link_error.Clash s) left is over = absurd (cc)
 turned d link new links news link_error.Stale left is over = absurd (cc)
 turned d link new links news link_error.LinkFault left is over = absurd (cc)
 
-pulls_turn : (d : Replica) (n : ℕ) (links news : List LinkSeen) (e : Refusal) → PullsEach d n links news (Err e) → e ≡ TooManyTurns → MadeMostReads links news
+pulls_turn : (d : Replica) (n : ℕ) (links news : List LinkSeen) (e : Refusal) → PullsEach d n links news (Err e) → e ≡ TooManyTurns
+    → MadeMostReads links news
 pulls_turn d zero links news e pulls is = absurd (let no = pulls.0 in cc)
 pulls_turn d (suc n) [] news e pulls is = absurd pulls
 pulls_turn d (suc n) (link ∷ links) news e (inl (pulled, new, left, more, at, over, rest)) is =
@@ -72,9 +75,12 @@ pulls_turn d (suc n) (link ∷ links) news e (inr (why, new, left, at, over, tol
     subst (λ s. MadeMostReads (link ∷ links) s) (sym at) (turned d link new links links why left (same ∙ is) over)
 
 -- so where that is told of a merge, a link made them
-pub merged_turns : (world count : ℕ) (links news : List LinkSeen) (e : Refusal) → IsMerged world count links news (Err e) → e ≡ TooManyTurns → MadeMostReads links news
+pub merged_turns : (world count : ℕ) (links news : List LinkSeen) (e : Refusal) → IsMerged world count links news (Err e) → e ≡ TooManyTurns
+    → MadeMostReads links news
 merged_turns world count links news e merged is = go (nat_lt (length links) count) (Err e) refl merged
   where
-    go : (few : Bool) (r : Result (List Edit) Refusal) → r ≡ Err e → MatchBool few ((r ≡ Err NoLink) × (news ≡ links)) (PullsEach (empty_document world) count links news r) → MadeMostReads links news
+    go : (few : Bool) (r : Result (List Edit) Refusal) → r ≡ Err e
+        → MatchBool few ((r ≡ Err NoLink) × (news ≡ links)) (PullsEach (empty_document world) count links news r)
+        → MadeMostReads links news
     go true r same bad = absurd (let no = bad.0 in cc)
     go false r same pulls = pulls_turn (empty_document world) count links news e (subst (λ x. PullsEach (empty_document world) count links news x) same pulls) is

@@ -31,7 +31,8 @@ with_own d m w s =
     let path : make m.world m.is_stale ≡ make d.world d.is_stale = rw (w, s) refl in path
 
 -- nor do pulls depend on the counts
-pulls_aside : (c : Counts) (d : Replica) (n : ℕ) (links news : List LinkSeen) (r : Result (List Edit) Refusal) → PullsEach (with_counts c d) n links news r
+pulls_aside : (c : Counts) (d : Replica) (n : ℕ) (links news : List LinkSeen) (r : Result (List Edit) Refusal)
+    → PullsEach (with_counts c d) n links news r
     → PullsEach d n links news r
 pulls_aside c d zero links news r h = h
 pulls_aside c d (suc n) [] news r h = absurd h
@@ -89,12 +90,14 @@ Pulling f world count all now i d =
     → PullsEach (empty_document world) count (map f all) (map f (take i now) ++ news) r)
 
 -- nothing was pulled yet
-pub pulling_begins : {X : Type 0} (f : X → LinkSeen) (d : Replica) (world count : ℕ) (all : List X) → d ≡ empty_document world → Pulling f world count all all 0 d
+pub pulling_begins : {X : Type 0} (f : X → LinkSeen) (d : Replica) (world count : ℕ) (all : List X) → d ≡ empty_document world
+    → Pulling f world count all all 0 d
 pulling_begins f d world count all new =
     (count, omega arith, refl, λ news r pulls. subst (λ q. PullsEach q count (map f all) news r) new pulls)
 
 -- the link that is next, and those behind it
-next_is : {X : Type 0} (all now : List X) (i : ℕ) (x : X) → drop i now ≡ drop i all → i < length now → x ≡ get_or now i x → drop i all ≡ x ∷ drop (suc i) all
+next_is : {X : Type 0} (all now : List X) (i : ℕ) (x : X) → drop i now ≡ drop i all → i < length now → x ≡ get_or now i x
+    → drop i all ≡ x ∷ drop (suc i) all
 next_is all now i x same within is = sym same ∙ drop-cons now i x within ∙ ap₂ (λ z zs. z ∷ zs) (sym is) (same_behind now all i same)
 
 -- one link more was pulled over
@@ -107,11 +110,13 @@ pulling_goes_on f d m world count all now i x y pulled (suc rest, sum, same, com
   omega (arith, sum),
   subst (λ n. drop n (set now i y) ≡ drop n all) (sym (add-one i)) (behind_set now i y ∙ same_behind now all i same),
   λ news r pulls.
-      let then : PullsEach m rest (map f (drop (suc i) all)) news r = subst (λ n. PullsEach m rest (map f (drop n all)) news r) (add-one i) pulls in
+      let then : PullsEach m rest (map f (drop (suc i) all)) news r =
+      subst (λ n. PullsEach m rest (map f (drop n all)) news r) (add-one i) pulls in
       let own : PullsEach (with_edits m.edits d) rest (map f (drop (suc i) all)) news r =
       pulls_aside m.counts (with_edits m.edits d) rest (map f (drop (suc i) all)) news r
       (subst (λ q. PullsEach q rest (map f (drop (suc i) all)) news r) (with_own d m w s) then) in
-      let here : PullsEach d (suc rest) (f x ∷ map f (drop (suc i) all)) (f y ∷ news) r = inl (pulled, f y, m.edits, news, refl, over, own) in
+      let here : PullsEach d (suc rest) (f x ∷ map f (drop (suc i) all)) (f y ∷ news) r =
+      inl (pulled, f y, m.edits, news, refl, over, own) in
       let there : PullsEach d (suc rest) (map f (drop i all)) (f y ∷ news) r =
       subst (λ xs. PullsEach d (suc rest) (map f xs) (f y ∷ news) r) (sym (next_is all now i x same within is)) here in
       let front : map f (take (suc i) (set now i y)) ++ news ≡ map f (take i now) ++ f y ∷ news = front_seen f now i y news within in
@@ -145,7 +150,8 @@ pub not_fewer : (n m : ℕ) → n ≤ m → nat_lt m n ≡ false
 not_fewer n m le = grind arith
 
 -- there are links enough
-pub is_merged : {X : Type 0} (f : X → LinkSeen) (world count n : ℕ) (links : List X) (news : List LinkSeen) (r : Result (List Edit) Refusal) → n ≡ length links → count ≤ n
+pub is_merged : {X : Type 0} (f : X → LinkSeen) (world count n : ℕ) (links : List X) (news : List LinkSeen) (r : Result (List Edit) Refusal)
+    → n ≡ length links → count ≤ n
     → PullsEach (empty_document world) count (map f links) news r → IsMerged world count (map f links) news r
 is_merged f world count n links news r all enough pulls =
     let all_enough : count ≤ length (map f links) = rw length-map (rw all at enough) in
@@ -169,7 +175,8 @@ as_many f xs = sym (length-map xs f)
 
 -- the edits of the links are written
 pub merge_comes : (links news : List LinkSeen) (out : List ℕ) (world count : ℕ) (es : List Edit) (bytes line : List ℕ)
-    → IsMerged world count links news (Ok es) → bytes ≡ file_text world es → line ≡ joined_line es → ComesToMerge links news out world count (Ok (Writes out bytes line))
+    → IsMerged world count links news (Ok es) → bytes ≡ file_text world es → line ≡ joined_line es
+    → ComesToMerge links news out world count (Ok (Writes out bytes line))
 merge_comes links news out world count es bytes line merged text told = (Ok es, merged, rw (text, told) refl)
 
 -- or none

@@ -19,15 +19,20 @@ module _ {K X : Type 0} (name : K → Name) where
   change-none id f [] h = refl
   change-none id f (e ∷ es) h = go (same name id e.0) refl h (change-none id f es)
     where
-      go : (b : Bool) → same name id e.0 ≡ b → is_some (cond b (Some e.1) (lookup (same name id) es)) ≡ false → (is_some (lookup (same name id) es) ≡ false → es ≡ change name id f es) → e ∷ es ≡ change name id f (e ∷ es)
+      go : (b : Bool) → same name id e.0 ≡ b → is_some (cond b (Some e.1) (lookup (same name id) es)) ≡ false
+          → (is_some (lookup (same name id) es) ≡ false → es ≡ change name id f es)
+          → e ∷ es ≡ change name id f (e ∷ es)
       go true b h more = absurd (true≢false h)
       go false b h more = rw b (ap (λ xs. e ∷ xs) (more h))
 
-  changed_from : (id : K) (f : X → X) (es : Under K X) (i : ℕ) (v : X) → i ≡ position_or_len (same name id) (keys_of es) → slice_get (values_of es) i ≡ Some v → set_value_at es i (f v) ≡ change name id f es
+  changed_from : (id : K) (f : X → X) (es : Under K X) (i : ℕ) (v : X) → i ≡ position_or_len (same name id) (keys_of es)
+      → slice_get (values_of es) i ≡ Some v
+      → set_value_at es i (f v) ≡ change name id f es
   changed_from id f [] i v p q = refl
   changed_from id f (e ∷ es) i v p q = go (same name id e.0) refl i p q (changed_from id f es)
     where
-      go : (b : Bool) → same name id e.0 ≡ b → (j : ℕ) → j ≡ cond (not b) (1 + position_or_len (same name id) (keys_of es)) 0 → slice_get (values_of (e ∷ es)) j ≡ Some v
+      go : (b : Bool) → same name id e.0 ≡ b → (j : ℕ) → j ≡ cond (not b) (1 + position_or_len (same name id) (keys_of es)) 0
+          → slice_get (values_of (e ∷ es)) j ≡ Some v
           → ((k : ℕ) (u : X) → k ≡ position_or_len (same name id) (keys_of es) → slice_get (values_of es) k ≡ Some u → set_value_at es k (f u) ≡ change name id f es)
           → set_value_at (e ∷ es) j (f v) ≡ change name id f (e ∷ es)
       go true b zero p q more =
@@ -38,7 +43,9 @@ module _ {K X : Type 0} (name : K → Name) where
       go false b (suc j) p q more = rw b (ap (λ xs. e ∷ xs) (more j v (omega arith) q))
 
   -- a value written where the name was found
-  pub changed : (id : K) (f : X → X) (es : Under K X) (i : ℕ) (v w : X) → Some i ≡ position (same name id) (keys_of es) → Some v ≡ slice_get (values_of es) i → w ≡ f v → set_value_at es i w ≡ change name id f es
+  pub changed : (id : K) (f : X → X) (es : Under K X) (i : ℕ) (v w : X) → Some i ≡ position (same name id) (keys_of es)
+      → Some v ≡ slice_get (values_of es) i → w ≡ f v
+      → set_value_at es i w ≡ change name id f es
   changed id f es i v w p q r =
       let here = place_of (position_or_len (same name id) (keys_of es)) (length (keys_of es)) i p in
       ap (set_value_at es i) r ∙ changed_from id f es i v here (sym q)

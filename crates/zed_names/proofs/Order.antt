@@ -17,7 +17,9 @@ name_total =
     (on_total (λ (x : Name). x.index) nat_cmp_total)
 
 -- what comparing says of three parts, by the tests on each
-by_tests : (a b c d e f : Bool) → is_lt (ordering_then (ordering_then (cond a Less (cond b Equal Greater)) (cond c Less (cond d Equal Greater))) (cond e Less (cond f Equal Greater))) ≡ ((a || (b && c)) || ((b && d) && e))
+by_tests : (a b c d e f : Bool)
+    → is_lt (ordering_then (ordering_then (cond a Less (cond b Equal Greater)) (cond c Less (cond d Equal Greater))) (cond e Less (cond f Equal Greater)))
+      ≡ ((a || (b && c)) || ((b && d) && e))
 by_tests true b c d e f = refl
 by_tests false true true d e f = refl
 by_tests false true false true true f = refl

@@ -17,7 +17,8 @@ module _ {K : Type 0} (name : K → Name) where
       let here : get_or ts i t ≡ t = get_or_from_slice_get ts i t t is in
       let before : (k : ℕ) → k < i → same name t (get_or ts k t) ≡ false = λ k lt.
       apart name (get_or ts k t) t (subst (λ (u : K). same name (get_or ts k t) u ≡ false) here (apart_from_distinct (same name) ts k i t distinct lt within)) in
-      let n : position_or_len (same name t) ts ≡ i = position_or_len_is (same name t) ts i t (omega arith) before (λ _. rw here (same_name-itself (name t))) in
+      let n : position_or_len (same name t) ts ≡ i =
+      position_or_len_is (same name t) ts i t (omega arith) before (λ _. rw here (same_name-itself (name t))) in
       rw (n, lt-ltb i (length ts) within) refl
 
 -- the key and the value of an entry stand where the entry does

@@ -43,7 +43,9 @@ module _ {K X : Type 0} (name : K → Name) where
   within [] (suc i) x l = absurd (omega arith)
   within (e ∷ es) (suc i) x l = let more = within es i x (omega arith) in omega arith
 
-  pub at-place : (es : Under K X) (i : ℕ) (id : K) (s : X) → i ≤ length es → under name id es ≡ None → IsSorted (key_cmp name) (keys_of (insert es i (id, s))) → insert es i (id, s) ≡ put name id s es
+  pub at-place : (es : Under K X) (i : ℕ) (id : K) (s : X) → i ≤ length es → under name id es ≡ None
+      → IsSorted (key_cmp name) (keys_of (insert es i (id, s)))
+      → insert es i (id, s) ≡ put name id s es
   at-place [] zero id s l n h = refl
   at-place [] (suc i) id s l n h = absurd (omega arith)
   at-place (e ∷ es) zero id s l n h =
@@ -54,17 +56,20 @@ module _ {K X : Type 0} (name : K → Name) where
       let rest = (none-first name id e es n).1 in
       let long = within es i (id, s) (omega arith) in
       let far = sorted_far (λ x y. is_lt (key_cmp name x y)) (ranks_by (key_total name) (λ x. x)) (keys_of (e ∷ insert es i (id, s))) h 0 (suc i) id (omega arith) (omega arith) in
-      let k : is_earlier (name id) (name e.0) ≡ false = sym (is_less (name id) (name e.0)) ∙ sym (ap (λ x. is_lt (key_cmp name x e.0)) (name_at es i (id, s) id (omega arith))) ∙ far in
+      let k : is_earlier (name id) (name e.0) ≡ false =
+          sym (is_less (name id) (name e.0)) ∙ sym (ap (λ x. is_lt (key_cmp name x e.0)) (name_at es i (id, s) id (omega arith))) ∙ far in
       rw k (ap (λ xs. e ∷ xs) (at-place es i id s (omega arith) rest (sorted-tail name e.0 (keys_of (insert es i (id, s))) h)))
 
   -- a name that isn't there goes last, before it is moved
-  pushed : (id : K) (s : X) (es : Under K X) → is_some (lookup (same name id) es) ≡ false → (insert_entry (same name) es id s ≡ es ++ (id, s) ∷ []) × (position_or_len (same name id) (keys_of es) ≡ length es)
+  pushed : (id : K) (s : X) (es : Under K X) → is_some (lookup (same name id) es) ≡ false
+      → (insert_entry (same name) es id s ≡ es ++ (id, s) ∷ []) × (position_or_len (same name id) (keys_of es) ≡ length es)
   pushed id s [] h = (refl, refl)
   pushed id s (e ∷ es) h = go (same name id e.0) refl h (pushed id s es)
     where
       go : (b : Bool) → same name id e.0 ≡ b → is_some (cond b (Some e.1) (lookup (same name id) es)) ≡ false
           → (is_some (lookup (same name id) es) ≡ false → (insert_entry (same name) es id s ≡ es ++ (id, s) ∷ []) × (position_or_len (same name id) (keys_of es) ≡ length es))
-          → (insert_entry (same name) (e ∷ es) id s ≡ e ∷ es ++ (id, s) ∷ []) × (position_or_len (same name id) (keys_of (e ∷ es)) ≡ length (e ∷ es))
+          → (insert_entry (same name) (e ∷ es) id s ≡ e ∷ es ++ (id, s) ∷ [])
+            × (position_or_len (same name id) (keys_of (e ∷ es)) ≡ length (e ∷ es))
       go true b h more = absurd (true≢false h)
       go false b h more = let m = more h in let p = m.1 in rw b (ap (λ xs. e ∷ xs) m.0, omega arith)
 
@@ -99,7 +104,8 @@ Inserts {K} X name eq cmp =
     → IsSorted (key_cmp name) (keys_of es)
     → move_index (insert_entry eq es id s) (position_or_len (eq id) (keys_of es)) to ≡ add name id s es
 
-pub inserts : {K X : Type 0} (name : K → Name) (eq : K → K → Bool) (cmp : K → K → Ordering) → eq ≡ same name → cmp ≡ key_cmp name → Inserts X name eq cmp
+pub inserts : {K X : Type 0} (name : K → Name) (eq : K → K → Bool) (cmp : K → K → Ordering) → eq ≡ same name → cmp ≡ key_cmp name
+    → Inserts X name eq cmp
 inserts {X = X} name eq cmp e o =
     subst (λ q. Inserts X name q cmp) (sym e)
     (subst (λ q. Inserts X name (same name) q) (sym o) (λ es id s i to none l t rises sorted. sorted_insertion name es id s i to none l t (rises sorted)))

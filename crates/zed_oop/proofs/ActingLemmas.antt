@@ -11,12 +11,14 @@ get_after_set (z ∷ xs) zero x y h = refl
 get_after_set (z ∷ xs) (suc i) x y h = get_after_set xs i x y h
 
 -- the running stat after it was put
-pub running_after_put : (s : Scene) (o : Option ℕ) (a b : Stat) → s.running ≡ o → stat_of s o ≡ Some a → running_stat (put_running_stat b s) ≡ Some b
+pub running_after_put : (s : Scene) (o : Option ℕ) (a b : Stat) → s.running ≡ o → stat_of s o ≡ Some a
+    → running_stat (put_running_stat b s) ≡ Some b
 running_after_put s None a b e h = absurd (cc)
 running_after_put s (Some i) a b e h = rw e (get_after_set s.stats i a b h)
 
 -- the running stat after its position was set
-pub running_after_move : (s : Scene) (a : Stat) (o : Option ℕ) → running_stat s ≡ Some a → running_stat (with_position o s) ≡ Some (record a { position = o })
+pub running_after_move : (s : Scene) (a : Stat) (o : Option ℕ) → running_stat s ≡ Some a
+    → running_stat (with_position o s) ≡ Some (record a { position = o })
 running_after_move s a o h = rw h (running_after_put s s.running a (record a { position = o }) refl h)
 
 put_same : (i : Option ℕ) (b : Stat) (s : Scene) (o : Option ℕ) → program_of (put_at i b s) o ≡ program_of s o
@@ -24,7 +26,8 @@ put_same None b s o = refl
 put_same (Some i) b s None = refl
 put_same (Some i) b s (Some k) = refl
 
-moved_same : (p : Option ℕ) (a : Option Stat) (s : Scene) (o : Option ℕ) → program_of (changed (λ x. record x { position = p }) a s) o ≡ program_of s o
+moved_same : (p : Option ℕ) (a : Option Stat) (s : Scene) (o : Option ℕ)
+    → program_of (changed (λ x. record x { position = p }) a s) o ≡ program_of s o
 moved_same p None s o = refl
 moved_same p (Some a) s o = put_same s.running (record a { position = p }) s o
 

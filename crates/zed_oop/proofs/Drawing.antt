@@ -27,7 +27,9 @@ front_draw n (w ∷ ws) left x e =
     let value : x ≡ w % n = ap (λ p. p.0) pair in
     (w ∷ [], (ap (λ l. w ∷ l) (sym (ap (λ p. p.1) pair)), λ more. ap (λ v. Some (v, more)) value))
 
-bind_at : {A B : Type 0} (f : List ℕ → Drawn A) (g : A → List ℕ → Drawn B) → Front (Is f) → ((a : A) → Front (Is (g a))) → (ws left : List ℕ) (y : B) (o : Drawn A) → ◌≡◌ {A = Drawn A} o (f ws) → ◌≡◌ {A = Drawn B} (Some (y, left)) (o >>= λ r. g r.0 r.1) → (used : List ℕ) × ((ws ≡ used ++ left) × ((more : List ℕ) → ◌≡◌ {A = Drawn B} (Some (y, more)) (f (used ++ more) >>= λ r. g r.0 r.1)))
+bind_at : {A B : Type 0} (f : List ℕ → Drawn A) (g : A → List ℕ → Drawn B) → Front (Is f) → ((a : A) → Front (Is (g a)))
+    → (ws left : List ℕ) (y : B) (o : Drawn A) → ◌≡◌ {A = Drawn A} o (f ws) → ◌≡◌ {A = Drawn B} (Some (y, left)) (o >>= λ r. g r.0 r.1)
+    → (used : List ℕ) × ((ws ≡ used ++ left) × ((more : List ℕ) → ◌≡◌ {A = Drawn B} (Some (y, more)) (f (used ++ more) >>= λ r. g r.0 r.1)))
 bind_at f g first second ws left y None is e = absurd (cc)
 bind_at f g first second ws left y (Some (a, mid)) is e =
     let x = first ws mid a is in
@@ -39,10 +41,12 @@ bind_at f g first second ws left y (Some (a, mid)) is e =
       ),
     )
 
-pub front_bind : {A B : Type 0} (f : List ℕ → Drawn A) (g : A → List ℕ → Drawn B) → Front (Is f) → ((a : A) → Front (Is (g a))) → Front (Is (λ ws. f ws >>= λ r. g r.0 r.1))
+pub front_bind : {A B : Type 0} (f : List ℕ → Drawn A) (g : A → List ℕ → Drawn B) → Front (Is f) → ((a : A) → Front (Is (g a)))
+    → Front (Is (λ ws. f ws >>= λ r. g r.0 r.1))
 front_bind f g first second ws left y e = bind_at f g first second ws left y (f ws) refl e
 
-pub front_either : {X : Type 0} (b : Bool) (f g : List ℕ → Drawn X) → Front (Is f) → Front (Is g) → Front (Is (λ ws. if b then f ws else g ws))
+pub front_either : {X : Type 0} (b : Bool) (f g : List ℕ → Drawn X) → Front (Is f) → Front (Is g)
+    → Front (Is (λ ws. if b then f ws else g ws))
 front_either true f g one other ws left x e = one ws left x e
 front_either false f g one other ws left x e = other ws left x e
 

@@ -42,7 +42,9 @@ ended_takes_none s i ws ended takes =
     ends_takes_none 33 Instructing t t (over Instructing t none) (stands_somewhere Instructing t none) takes
 
 -- at the end of a program nothing takes memory
-end_takes_none : (at : ℕ) (i : Instruction) (next : ℕ) (a : Stat) (t : State) → InstructionAt [] at i next → InstructionKeeps i ⊎ InstructionWants i a t → ⊥
+end_takes_none : (at : ℕ) (i : Instruction) (next : ℕ) (a : Stat) (t : State) → InstructionAt [] at i next
+    → InstructionKeeps i ⊎ InstructionWants i a t
+    → ⊥
 end_takes_none at End next a t x (inl w) = w
 end_takes_none at End next a t x (inr w) = w
 end_takes_none at Skipped next a t x (inl w) = w
@@ -64,7 +66,9 @@ reads_end t a is none (b, (at, ((o, p), (i, (next, (stands, w)))))) =
     let Q : Option ℕ → Type 0 = λ x. InstructionAt (program_of t.scene x) at i next in
     end_takes_none at i next b t (subst Q none (subst P same stands)) w
 
-none_takes_none_at : (o : Option ℕ) (t : State) (a : Stat) → running_stat t.scene ≡ Some a → a.position ≡ o → a.program ≡ None → ChainTakes 33 Instructing t → ⊥
+none_takes_none_at : (o : Option ℕ) (t : State) (a : Stat) → running_stat t.scene ≡ Some a → a.position ≡ o → a.program ≡ None
+    → ChainTakes 33 Instructing t
+    → ⊥
 none_takes_none_at None t a is place none takes =
     let ended : position_of (running_stat t.scene) ≡ None = ap position_of is ∙ place in
     ends_takes_none 33 Instructing t t (over Instructing t ended) (stands_somewhere Instructing t ended) takes

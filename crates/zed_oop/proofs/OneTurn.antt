@@ -14,8 +14,10 @@ use Rattle.zed_oop.specs.Turn.{Chain, Does, Outcome, Stands, State, Turn, comman
 
 -- what stands where a program is read, and what comes of it
 Found : Reading → State → Stat → ℕ → Outcome → Type 0
-Found Instructing t a at o = (i : Instruction) × ((next : ℕ) × (InstructionAt (program_of t.scene a.program) at i next × (o ≡ instructed i at next a t)))
-Found (Commanding start) t a at o = (c : Option OopCommand) × ((next : ℕ) × (CommandAt (program_of t.scene a.program) at c next × (o ≡ commanded c start next a t)))
+Found Instructing t a at o =
+    (i : Instruction) × ((next : ℕ) × (InstructionAt (program_of t.scene a.program) at i next × (o ≡ instructed i at next a t)))
+Found (Commanding start) t a at o =
+    (c : Option OopCommand) × ((next : ℕ) × (CommandAt (program_of t.scene a.program) at c next × (o ≡ commanded c start next a t)))
 
 found_one : (r : Reading) (t : State) (a : Stat) (at : ℕ) (o q : Outcome) → Found r t a at o → Found r t a at q → o ≡ q
 unfolding Found
@@ -28,7 +30,8 @@ found_one (Commanding start) t a at o q x y =
 
 -- the turn is over, or something stands where the running stat reads
 Opened : Reading → State → Outcome → Type 0
-Opened r t o = ((position_of (running_stat t.scene) ≡ None) × (o ≡ ends t)) ⊎ ((a : Stat) × ((at : ℕ) × (Stands t.scene a at × Found r t a at o)))
+Opened r t o =
+    ((position_of (running_stat t.scene) ≡ None) × (o ≡ ends t)) ⊎ ((a : Stat) × ((at : ℕ) × (Stands t.scene a at × Found r t a at o)))
 
 opened : (r : Reading) (t : State) (o : Outcome) → Does r t o → Opened r t o
 unfolding Opened Found
@@ -96,8 +99,10 @@ unfolding Begun Behind
 chain_one n r t e (used_up r2 t2) f y = sym (begun zero r2 t2 f y)
 chain_one n r t e (ended m r2 t2 u d) f y = sym (behind_known m r2 t2 (ends u) f d (begun (suc m) r2 t2 f y))
 chain_one n r t e (lacked m r2 t2 d) f y = sym (behind_known m r2 t2 lacks f d (begun (suc m) r2 t2 f y))
-chain_one n r t e (went_on m r2 q t2 u g d rest) f y = chain_one (suc m) q u g rest f (behind_known m r2 t2 (goes q u) f d (begun (suc m) r2 t2 f y))
-chain_one n r t e (counted m r2 q t2 u g d rest) f y = chain_one m q u g rest f (behind_known m r2 t2 (counts q u) f d (begun (suc m) r2 t2 f y))
+chain_one n r t e (went_on m r2 q t2 u g d rest) f y =
+    chain_one (suc m) q u g rest f (behind_known m r2 t2 (goes q u) f d (begun (suc m) r2 t2 f y))
+chain_one n r t e (counted m r2 q t2 u g d rest) f y =
+    chain_one m q u g rest f (behind_known m r2 t2 (counts q u) f d (begun (suc m) r2 t2 f y))
 
 -- one thing comes of a turn
 pub turn_one : (s : Scene) (i : ℕ) (ws : List ℕ) (e f : Option State) → Turn s i ws e → Turn s i ws f → e ≡ f

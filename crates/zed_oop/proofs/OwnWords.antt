@@ -12,11 +12,14 @@ use Rattle.zed_oop.specs.Sending.{Sent, arrived, changed_of, changed_program, fo
 -- ---- where each but one does nothing
 
 -- each but the i-th changes nothing, where that holds which the i-th keeps: then only the i-th does something
-only : {X : Type 0} (f : ℕ → X → X) (P : X → Type 0) (i : ℕ) → ((j : ℕ) (x : X) → P x → j ≢ i → f j x ≡ x) → ((x : X) → P x → P (f i x)) → (n : ℕ) (x : X) → P x → for_each f n x ≡ cond (nat_lt i n) (f i x) x
+only : {X : Type 0} (f : ℕ → X → X) (P : X → Type 0) (i : ℕ) → ((j : ℕ) (x : X) → P x → j ≢ i → f j x ≡ x) → ((x : X) → P x → P (f i x))
+    → (n : ℕ) (x : X) → P x
+    → for_each f n x ≡ cond (nat_lt i n) (f i x) x
 only f P i rest kept zero x p = sym (ap (λ b. cond b (f i x) x) (le-ltb i 0 (omega arith)))
 only {X = X} f P i rest kept (suc n) x p = ap (f n) (only f P i rest kept n x p) ∙ by_place (nat_lt i n) refl (eqb_tells n i)
   where
-    by_place : (b : Bool) → nat_lt i n ≡ b → ((eqb n i ≡ true) × (n ≡ i)) ⊎ ((eqb n i ≡ false) × (n ≢ i)) → f n (cond b (f i x) x) ≡ cond (nat_lt i (suc n)) (f i x) x
+    by_place : (b : Bool) → nat_lt i n ≡ b → ((eqb n i ≡ true) × (n ≡ i)) ⊎ ((eqb n i ≡ false) × (n ≢ i))
+        → f n (cond b (f i x) x) ≡ cond (nat_lt i (suc n)) (f i x) x
     by_place true e o =
         let less = ltb-true i n e in
         rest n (f i x) (kept x p) (λ same. omega (arith, same)) ∙ sym (ap (λ b. cond b (f i x) x) (lt-ltb i (suc n) (omega arith)))
@@ -84,7 +87,8 @@ sent_running w i (Some a) t =
     reached_running (is_reached p w i (is_own t.scene i) a) i a (label_place p (label_of w)) t
 
 -- a word without a target is sent to the stat whose turn it is
-pub sent_to_own : (w : List ℕ) (s : Scene) (i : ℕ) → position is_colon w ≡ None → s.running ≡ Some i → sent w s ≡ send_one w i (so_far s false)
+pub sent_to_own : (w : List ℕ) (s : Scene) (i : ℕ) → position is_colon w ≡ None → s.running ≡ Some i
+    → sent w s ≡ send_one w i (so_far s false)
 unfolding sent send_one
 sent_to_own w s i none mine =
     only (send_one w) (λ t. t.scene.running ≡ Some i) i
@@ -104,7 +108,8 @@ sent_by_none w s none mine =
 -- ---- labels that are hidden or shown
 
 -- a word without a target changes no program of another stat
-changed_past : (f : List ℕ → List ℕ) (w : List ℕ) (j : ℕ) (o : Option Stat) (s : Scene) → position is_colon w ≡ None → is_own s j ≡ false → changed_of f w j o s ≡ s
+changed_past : (f : List ℕ → List ℕ) (w : List ℕ) (j : ℕ) (o : Option Stat) (s : Scene) → position is_colon w ≡ None → is_own s j ≡ false
+    → changed_of f w j o s ≡ s
 changed_past f w j None s none other = refl
 changed_past f w j (Some a) s none other =
     let p = program_of s a.program in
@@ -121,7 +126,8 @@ changed_running f w i None s = refl
 changed_running f w i (Some a) s = program_running (is_target (program_of s a.program) w i (is_own s i)) f a.program s
 
 -- the labels of a word without a target are those of the stat whose turn it is
-pub relabelled_own : (r : Relabelling) (w : List ℕ) (s : Scene) (i : ℕ) → position is_colon w ≡ None → s.running ≡ Some i → relabelled r w s ≡ relabel_one r w i s
+pub relabelled_own : (r : Relabelling) (w : List ℕ) (s : Scene) (i : ℕ) → position is_colon w ≡ None → s.running ≡ Some i
+    → relabelled r w s ≡ relabel_one r w i s
 unfolding relabelled relabel_one
 relabelled_own r w s i none mine =
     let f = relabelled_in r (label_of w) in

@@ -78,13 +78,16 @@ front_holds q a s =
 
 -- ---- commands
 
-front_with : {X : Type 0} (f : X → Scene → Followed) (s : Scene) (g : List ℕ → Drawn (Option X)) → Front (Is g) → Front (Is (λ ws. with_drawn f s (g ws)))
+front_with : {X : Type 0} (f : X → Scene → Followed) (s : Scene) (g : List ℕ → Drawn (Option X)) → Front (Is g)
+    → Front (Is (λ ws. with_drawn f s (g ws)))
 front_with f s g front = front_bind g (λ d ws. Some (known_or_error f d s, ws)) front (λ d. front_none (known_or_error f d s))
 
 front_effect : (c : OopCommand) (start : ℕ) (a : Stat) (s : Scene) → Front (Is (effect c start a s))
 unfolding effect
-front_effect (Go h) start a s = front_with (λ d t. after_go start (try_move a.place d t)) s (led h.turns h.course a s) (front_led h.turns h.course a s)
-front_effect (Try h) start a s = front_with (λ d t. after_try (try_move a.place d t)) s (led h.turns h.course a s) (front_led h.turns h.course a s)
+front_effect (Go h) start a s =
+    front_with (λ d t. after_go start (try_move a.place d t)) s (led h.turns h.course a s) (front_led h.turns h.course a s)
+front_effect (Try h) start a s =
+    front_with (λ d t. after_try (try_move a.place d t)) s (led h.turns h.course a s) (front_led h.turns h.course a s)
 front_effect (Walk h) start a s = front_with _ s (led h.turns h.course a s) (front_led h.turns h.course a s)
 front_effect (Shoot h) start a s = front_with _ s (led h.turns h.course a s) (front_led h.turns h.course a s)
 front_effect (Put h k) start a s = front_with (put_kind a.place k) s (led h.turns h.course a s) (front_led h.turns h.course a s)
@@ -119,29 +122,34 @@ unshape (counts r t) p e = let q : ◌≡◌ {A = Came × List ℕ} ((Counts r, 
 unshape (ends t) p e = let q : ◌≡◌ {A = Came × List ℕ} ((Ends, (t.scene, t.lines)), t.left) p = cc in ap from_came q
 unshape lacks p e = absurd (cc)
 
-front_stepped : (again next : ℕ) (m : Bool × Scene) (s : Scene) (ls : List (List ℕ)) → Front (Is (λ ws. shape (stepped again next m (state s ws ls))))
+front_stepped : (again next : ℕ) (m : Bool × Scene) (s : Scene) (ls : List (List ℕ))
+    → Front (Is (λ ws. shape (stepped again next m (state s ws ls))))
 unfolding shape
 front_stepped again next (true, u) s ls = front_none _
 front_stepped again next (false, u) s ls = front_none _
 
-front_stepped_if : (here : Place) (again next : ℕ) (d : Option Way) (s : Scene) (ls : List (List ℕ)) → Front (Is (λ ws. shape (stepped_if here again next d (state s ws ls))))
+front_stepped_if : (here : Place) (again next : ℕ) (d : Option Way) (s : Scene) (ls : List (List ℕ))
+    → Front (Is (λ ws. shape (stepped_if here again next d (state s ws ls))))
 unfolding shape
 front_stepped_if here again next None s ls = front_none _
 front_stepped_if here again next (Some d) s ls = front_stepped again next (try_move here d s) s ls
 
-stepped_bound : (o : Drawn (Option Way)) (here : Place) (again next : ℕ) (s : Scene) (ws : List ℕ) (ls : List (List ℕ)) → ◌≡◌ {A = Drawn Came} (shape (stepped_by o here again next (state s ws ls))) (o >>= λ r. shape (stepped_if here again next r.0 (state s r.1 ls)))
+stepped_bound : (o : Drawn (Option Way)) (here : Place) (again next : ℕ) (s : Scene) (ws : List ℕ) (ls : List (List ℕ))
+    → ◌≡◌ {A = Drawn Came} (shape (stepped_by o here again next (state s ws ls))) (o >>= λ r. shape (stepped_if here again next r.0 (state s r.1 ls)))
 unfolding shape
 stepped_bound None here again next s ws ls = refl
 stepped_bound (Some d) here again next s ws ls = refl
 
-front_stepped_by : (h : Heading) (a : Stat) (again next : ℕ) (s : Scene) (ls : List (List ℕ)) → Front (Is (λ ws. shape (stepped_by (led h.turns h.course a s ws) a.place again next (state s ws ls))))
+front_stepped_by : (h : Heading) (a : Stat) (again next : ℕ) (s : Scene) (ls : List (List ℕ))
+    → Front (Is (λ ws. shape (stepped_by (led h.turns h.course a s ws) a.place again next (state s ws ls))))
 front_stepped_by h a again next s ls =
     front_same (λ ws. shape (stepped_by (led h.turns h.course a s ws) a.place again next (state s ws ls)))
     (λ ws. led h.turns h.course a s ws >>= λ r. shape (stepped_if a.place again next r.0 (state s r.1 ls)))
     (λ ws. stepped_bound (led h.turns h.course a s ws) a.place again next s ws ls)
     (front_bind (led h.turns h.course a s) (λ d ws. shape (stepped_if a.place again next d (state s ws ls))) (front_led h.turns h.course a s) (λ d. front_stepped_if a.place again next d s ls))
 
-front_instructed : (i : Instruction) (at next : ℕ) (a : Stat) (s : Scene) (ls : List (List ℕ)) → Front (Is (λ ws. shape (instructed i at next a (state s ws ls))))
+front_instructed : (i : Instruction) (at next : ℕ) (a : Stat) (s : Scene) (ls : List (List ℕ))
+    → Front (Is (λ ws. shape (instructed i at next a (state s ws ls))))
 unfolding shape
 front_instructed (Step h) at next a s ls = front_stepped_by h a at next s ls
 front_instructed (Attempt h) at next a s ls = front_stepped_by h a next next s ls
@@ -152,12 +160,14 @@ unfolding shape
 front_settled start Skip s ls = front_none _
 front_settled start _ s ls = front_none _
 
-settled_bound : (start : ℕ) (o : Drawn (Next × Scene)) (s : Scene) (ws : List ℕ) (ls : List (List ℕ)) → ◌≡◌ {A = Drawn Came} (shape (settled_by start o (state s ws ls))) (o >>= λ r. shape (settled start r.0.0 (state r.0.1 r.1 ls)))
+settled_bound : (start : ℕ) (o : Drawn (Next × Scene)) (s : Scene) (ws : List ℕ) (ls : List (List ℕ))
+    → ◌≡◌ {A = Drawn Came} (shape (settled_by start o (state s ws ls))) (o >>= λ r. shape (settled start r.0.0 (state r.0.1 r.1 ls)))
 unfolding shape
 settled_bound start None s ws ls = refl
 settled_bound start (Some d) s ws ls = refl
 
-front_commanded : (c : Option OopCommand) (start next : ℕ) (a : Stat) (s : Scene) (ls : List (List ℕ)) → Front (Is (λ ws. shape (commanded c start next a (state s ws ls))))
+front_commanded : (c : Option OopCommand) (start next : ℕ) (a : Stat) (s : Scene) (ls : List (List ℕ))
+    → Front (Is (λ ws. shape (commanded c start next a (state s ws ls))))
 unfolding shape
 front_commanded None start next a s ls = front_none _
 front_commanded (Some c) start next a s ls =
@@ -176,7 +186,8 @@ front_ends s ls = front_none _
 abbrev pub with_left : List ℕ → State → State
 with_left ws t = state t.scene ws t.lines
 
-came : (F : List ℕ → Outcome) → Front (Is (λ ws. shape (F ws))) → (ws : List ℕ) (a : After) (u : State) → F ws ≡ after a u → (used : List ℕ) × ((ws ≡ used ++ u.left) × ((more : List ℕ) → F (used ++ more) ≡ after a (with_left more u)))
+came : (F : List ℕ → Outcome) → Front (Is (λ ws. shape (F ws))) → (ws : List ℕ) (a : After) (u : State) → F ws ≡ after a u
+    → (used : List ℕ) × ((ws ≡ used ++ u.left) × ((more : List ℕ) → F (used ++ more) ≡ after a (with_left more u)))
 unfolding from_came
 came F front ws a u e =
     let z = front ws u.left (a, (u.scene, u.lines)) (sym (shape_after a u) ∙ sym (ap shape e)) in
@@ -184,7 +195,8 @@ came F front ws a u e =
 
 -- what is done with words left over
 abbrev pub DoneWith : Reading → State → After → State → Type 0
-DoneWith r t a u = (used : List ℕ) × ((t.left ≡ used ++ u.left) × ((more : List ℕ) → Does r (with_left (used ++ more) t) (after a (with_left more u))))
+DoneWith r t a u =
+    (used : List ℕ) × ((t.left ≡ used ++ u.left) × ((more : List ℕ) → Does r (with_left (used ++ more) t) (after a (with_left more u))))
 
 does_front : (r : Reading) (t : State) (o : Outcome) → Does r t o → (a : After) (u : State) → o ≡ after a u → DoneWith r t a u
 does_front _ _ _ (over r t none) a u e =
@@ -200,14 +212,17 @@ does_front _ _ _ (commands start t s at c next stands there) a u e =
 -- it says nothing of a chain that lacks a word
 abbrev pub ChainTo : ℕ → Reading → State → Option State → Type 0
 ChainTo n r t None = n ≡ n
-ChainTo n r t (Some u) = (used : List ℕ) × ((t.left ≡ used ++ u.left) × ((more : List ℕ) → Chain n r (with_left (used ++ more) t) (Some (with_left more u))))
+ChainTo n r t (Some u) =
+    (used : List ℕ) × ((t.left ≡ used ++ u.left) × ((more : List ℕ) → Chain n r (with_left (used ++ more) t) (Some (with_left more u))))
 
 finished_front : (r : Reading) (t : State) → ChainTo zero r t (Some (finished r t))
 finished_front Instructing t = ([], (refl, λ more. used_up Instructing (with_left more t)))
 finished_front (Commanding start) t = ([], (refl, λ more. used_up (Commanding start) (with_left more t)))
 
 -- one instruction more in front of a chain
-chained : (m n : ℕ) (r q : Reading) (t u : State) (a : After) (e : Option State) → ((s v : State) (f : Option State) → Does r s (after a v) → Chain m q v f → Chain n r s f) → DoneWith r t a u → ChainTo m q u e → ChainTo n r t e
+chained : (m n : ℕ) (r q : Reading) (t u : State) (a : After) (e : Option State)
+    → ((s v : State) (f : Option State) → Does r s (after a v) → Chain m q v f → Chain n r s f) → DoneWith r t a u → ChainTo m q u e
+    → ChainTo n r t e
 chained m n r q t u a None link z y = refl
 chained m n r q t u a (Some v) link z y = (
   z.0 ++ y.0,
@@ -230,5 +245,6 @@ chain_front _ _ _ _ (went_on n r q t u e d rest) =
 chain_front _ _ _ _ (counted n r q t u e d rest) =
     chained n (suc n) r q t u (Counts q) e (λ s v f x y. counted n r q s v f x y) (does_front r t (counts q u) d (Counts q) u refl) (chain_front n q u e rest)
 
-pub turn_front : (s : Scene) (i : ℕ) (ws : List ℕ) (u : State) → Turn s i ws (Some u) → (used : List ℕ) × ((ws ≡ used ++ u.left) × ((more : List ℕ) → Turn s i (used ++ more) (Some (record u { left = more }))))
+pub turn_front : (s : Scene) (i : ℕ) (ws : List ℕ) (u : State) → Turn s i ws (Some u)
+    → (used : List ℕ) × ((ws ≡ used ++ u.left) × ((more : List ℕ) → Turn s i (used ++ more) (Some (record u { left = more }))))
 turn_front s i ws u turn = chain_front 33 Instructing (start_of s i ws) (Some u) turn

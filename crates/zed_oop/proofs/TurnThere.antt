@@ -25,9 +25,13 @@ DoesSome r t = (o : Outcome) × (Does r t o × Nearer o r t)
 ended_nearer : (r : Reading) (t : State) → Nearer (ends t) r t
 ended_nearer r t q u e = absurd (cc)
 
-commanded_some : (c : Option OopCommand) (start at next : ℕ) (a : Stat) (t : State) → running_stat t.scene ≡ Some a → a.position ≡ Some at → CommandAt (program_of t.scene a.program) at c next → Nearer (commanded c start next a t) (Commanding start) t
-commanded_some None start at next a t here place x q u e = commanded_nearer None start at next a t u q here place (no_command_after (program_of t.scene a.program) at next x) e
-commanded_some (Some c) start at next a t here place x q u e = absurd (no_command_goes (effect c start a (with_position (Some next) t.scene) t.left) start t u q e)
+commanded_some : (c : Option OopCommand) (start at next : ℕ) (a : Stat) (t : State) → running_stat t.scene ≡ Some a → a.position ≡ Some at
+    → CommandAt (program_of t.scene a.program) at c next
+    → Nearer (commanded c start next a t) (Commanding start) t
+commanded_some None start at next a t here place x q u e =
+    commanded_nearer None start at next a t u q here place (no_command_after (program_of t.scene a.program) at next x) e
+commanded_some (Some c) start at next a t here place x q u e =
+    absurd (no_command_goes (effect c start a (with_position (Some next) t.scene) t.left) start t u q e)
 
 reads_some : (r : Reading) (t : State) (a : Stat) (at : ℕ) → running_stat t.scene ≡ Some a → a.position ≡ Some at → DoesSome r t
 reads_some Instructing t a at here place =
@@ -61,11 +65,14 @@ does_there r t = by_stat (running_stat t.scene) refl
     by_stat (Some a) here = by_place a here a.position refl
 
 -- a chain up to the next command word, and what comes behind it
-run_there : (n : ℕ) → ((r : Reading) (t : State) → (e : Option State) × Chain n r t e) → (k : ℕ) (r : Reading) (t : State) → room r t.scene < k → (e : Option State) × Chain (suc n) r t e
+run_there : (n : ℕ) → ((r : Reading) (t : State) → (e : Option State) × Chain n r t e) → (k : ℕ) (r : Reading) (t : State)
+    → room r t.scene < k
+    → (e : Option State) × Chain (suc n) r t e
 run_there n rest zero r t h = absurd (omega arith)
 run_there n rest (suc k) r t h = by_outcome (does_there r t) (run_there n rest k)
   where
-    by_outcome : DoesSome r t → ((q : Reading) (u : State) → room q u.scene < k → (e : Option State) × Chain (suc n) q u e) → (e : Option State) × Chain (suc n) r t e
+    by_outcome : DoesSome r t → ((q : Reading) (u : State) → room q u.scene < k → (e : Option State) × Chain (suc n) q u e)
+        → (e : Option State) × Chain (suc n) r t e
     by_outcome (ends u, (d, w)) further = (Some u, ended n r t u d)
     by_outcome (lacks, (d, w)) further = (None, lacked n r t d)
     by_outcome (counts q u, (d, w)) further = let x = rest q u in (x.0, counted n r q t u x.0 d x.1)

@@ -121,8 +121,12 @@ position_of (Some a) = a.position
 pub data Does : Reading → State → Outcome → Type 0 where
   -- the stat is gone, or its program has ended
   over : (r : Reading) (t : State) → position_of (running_stat t.scene) ≡ None → Does r t (ends t)
-  instructs : (t : State) (a : Stat) (at : ℕ) (i : Instruction) (next : ℕ) → Stands t.scene a at → InstructionAt (program_of t.scene a.program) at i next → Does Instructing t (instructed i at next a t)
-  commands : (start : ℕ) (t : State) (a : Stat) (at : ℕ) (c : Option OopCommand) (next : ℕ) → Stands t.scene a at → CommandAt (program_of t.scene a.program) at c next → Does (Commanding start) t (commanded c start next a t)
+  instructs : (t : State) (a : Stat) (at : ℕ) (i : Instruction) (next : ℕ) → Stands t.scene a at
+      → InstructionAt (program_of t.scene a.program) at i next
+      → Does Instructing t (instructed i at next a t)
+  commands : (start : ℕ) (t : State) (a : Stat) (at : ℕ) (c : Option OopCommand) (next : ℕ) → Stands t.scene a at
+      → CommandAt (program_of t.scene a.program) at c next
+      → Does (Commanding start) t (commanded c start next a t)
 
 -- where no command word may be read any more, the rest of the line is skipped in place of a command
 abbrev pub finished : Reading → State → State

@@ -16,7 +16,9 @@ own_stamp (Genesis bytes) s h = rw h refl
 own_stamp _ s h = or_right _ _ h
 
 -- by the facts on real edits: the stamp and the op have their sizes
-pub has_sizes : FitIsEachPart → (e : Edit) → (is_stamp e.stamp ≡ true → IsStamp e.stamp) → (AreStamped (names_of e.op) → is_in_range e.op ≡ true → IsOp e.op) → Fits e → HasSizes e
+pub has_sizes : FitIsEachPart → (e : Edit) → (is_stamp e.stamp ≡ true → IsStamp e.stamp)
+    → (AreStamped (names_of e.op) → is_in_range e.op ≡ true → IsOp e.op) → Fits e
+    → HasSizes e
 has_sizes law e stamp op fits =
     let p = (law e).0 fits in
     let stamps = and_parts _ _ p.0 in

@@ -35,7 +35,8 @@ agree_right : (es fs : List Edit) → Agrees (es ++ fs) → Agrees fs
 agree_right es fs a e f m n s = a e f (Contains-append_right es fs e m) (Contains-append_right es fs f n) s
 
 agree_across : (es fs : List Edit) → Agrees (es ++ fs) → AgreeWith es fs
-agree_across es fs a e f m n s = a e f (Contains-append_left es fs e (Member-to e es m)) (Contains-append_right es fs f (Member-to f fs n)) s
+agree_across es fs a e f m n s =
+    a e f (Contains-append_left es fs e (Member-to e es m)) (Contains-append_right es fs f (Member-to f fs n)) s
 
 agree_within : (es : List Edit) → Agrees es → AgreeWith es es
 agree_within es a e f m n s = a e f (Member-to e es m) (Member-to f es n) s
@@ -73,7 +74,8 @@ pub set_is_of_any_order : SetIsOfAnyOrder
 set_is_of_any_order es fs a h =
     let b : Agrees fs = same_agree es fs h a in
     let k : HaveTheSame (set_of es) fs = same_then (set_of es) es fs (set_has_its_edits es a) h in
-    let l : HaveTheSame (set_of es) (set_of fs) = same_then (set_of es) fs (set_of fs) k (same_back (set_of fs) fs (set_has_its_edits fs b)) in
+    let l : HaveTheSame (set_of es) (set_of fs) =
+    same_then (set_of es) fs (set_of fs) k (same_back (set_of fs) fs (set_has_its_edits fs b)) in
     rising_is_its_edits (set_of es) (set_of fs) (set_is_rising es) (set_is_rising fs) l
 
 pub rising_is_its_set : RisingIsItsSet
@@ -159,21 +161,26 @@ union_commutes es fs r s a =
     let t : HaveTheSame (fs ++ es) (es ++ fs) = same_turned fs es in
     let b : Agrees (fs ++ es) = same_agree (es ++ fs) (fs ++ es) (same_turned es fs) a in
     let k : HaveTheSame (union fs es) (es ++ fs) = same_then (union fs es) (fs ++ es) (es ++ fs) (union_has_both fs es b) t in
-    let l : HaveTheSame (union es fs) (union fs es) = same_then (union es fs) (es ++ fs) (union fs es) (union_has_both es fs a) (same_back (union fs es) (es ++ fs) k) in
+    let l : HaveTheSame (union es fs) (union fs es) =
+    same_then (union es fs) (es ++ fs) (union fs es) (union_has_both es fs a) (same_back (union fs es) (es ++ fs) k) in
     rising_is_its_edits (union es fs) (union fs es) (union-rising es fs r) (union-rising fs es s) l
 
 pub union_associates : UnionAssociates
 union_associates es fs gs r a =
     let b : Agrees ((es ++ fs) ++ gs) = subst Agrees (sym (append_assoc es fs gs)) a in
-    let left : HaveTheSame (union (union es fs) gs) ((es ++ fs) ++ gs) = joined (union es fs) (es ++ fs) gs gs (union_has_both es fs (agree_left (es ++ fs) gs b)) (same_itself gs) b in
-    let left' : HaveTheSame (union (union es fs) gs) (es ++ (fs ++ gs)) = subst (HaveTheSame (union (union es fs) gs)) (append_assoc es fs gs) left in
-    let right : HaveTheSame (union es (union fs gs)) (es ++ (fs ++ gs)) = joined es es (union fs gs) (fs ++ gs) (same_itself es) (union_has_both fs gs (agree_right es (fs ++ gs) a)) a in
+    let left : HaveTheSame (union (union es fs) gs) ((es ++ fs) ++ gs) =
+    joined (union es fs) (es ++ fs) gs gs (union_has_both es fs (agree_left (es ++ fs) gs b)) (same_itself gs) b in
+    let left' : HaveTheSame (union (union es fs) gs) (es ++ (fs ++ gs)) =
+    subst (HaveTheSame (union (union es fs) gs)) (append_assoc es fs gs) left in
+    let right : HaveTheSame (union es (union fs gs)) (es ++ (fs ++ gs)) =
+    joined es es (union fs gs) (fs ++ gs) (same_itself es) (union_has_both fs gs (agree_right es (fs ++ gs) a)) a in
     let l : HaveTheSame (union (union es fs) gs) (union es (union fs gs)) = same_then (union (union es fs) gs) (es ++ (fs ++ gs)) (union es (union fs gs)) left' (same_back (union es (union fs gs)) (es ++ (fs ++ gs)) right) in
     rising_is_its_edits (union (union es fs) gs) (union es (union fs gs)) (union-rising (union es fs) gs (union-rising es fs r)) (union-rising es (union fs gs) r) l
 
 pub union_of_sets : UnionOfSets
 union_of_sets es fs a =
-    let k : HaveTheSame (union (set_of es) (set_of fs)) (es ++ fs) = joined (set_of es) es (set_of fs) fs (set_has_its_edits es (agree_left es fs a)) (set_has_its_edits fs (agree_right es fs a)) a in
+    let k : HaveTheSame (union (set_of es) (set_of fs)) (es ++ fs) =
+    joined (set_of es) es (set_of fs) fs (set_has_its_edits es (agree_left es fs a)) (set_has_its_edits fs (agree_right es fs a)) a in
     let l : HaveTheSame (union (set_of es) (set_of fs)) (set_of (es ++ fs)) = same_then (union (set_of es) (set_of fs)) (es ++ fs) (set_of (es ++ fs)) k (same_back (set_of (es ++ fs)) (es ++ fs) (set_has_its_edits (es ++ fs) a)) in
     rising_is_its_edits (union (set_of es) (set_of fs)) (set_of (es ++ fs)) (union-rising (set_of es) (set_of fs) (set_is_rising es)) (set_is_rising (es ++ fs)) l
 

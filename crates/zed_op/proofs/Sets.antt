@@ -30,16 +30,19 @@ Member-all P [] h e m = absurd m
 Member-all P (x ∷ xs) h e m = elim m [ inl q ↦ subst P q h.0 | inr n ↦ Member-all P xs h.1 e n ]
 
 -- (1) a list stays rising
-after : (s : Stamp) (e : Edit) (es : List Edit) → before s e.stamp ≡ true → AllByRecursion (λ f. before s f.stamp ≡ true) es → AllByRecursion (λ f. before s f.stamp ≡ true) (with_edit e es)
+after : (s : Stamp) (e : Edit) (es : List Edit) → before s e.stamp ≡ true → AllByRecursion (λ f. before s f.stamp ≡ true) es
+    → AllByRecursion (λ f. before s f.stamp ≡ true) (with_edit e es)
 after s e [] b h = (b, tt)
 after s e (f ∷ fs) b h = go (before e.stamp f.stamp) (same_stamp e.stamp f.stamp) (after s e fs b h.1)
   where
-    go : (c d : Bool) → AllByRecursion (λ f. before s f.stamp ≡ true) (with_edit e fs) → AllByRecursion (λ f. before s f.stamp ≡ true) (cond c (e ∷ f ∷ fs) (cond d (f ∷ fs) (f ∷ with_edit e fs)))
+    go : (c d : Bool) → AllByRecursion (λ f. before s f.stamp ≡ true) (with_edit e fs)
+        → AllByRecursion (λ f. before s f.stamp ≡ true) (cond c (e ∷ f ∷ fs) (cond d (f ∷ fs) (f ∷ with_edit e fs)))
     go true d more = (b, h)
     go false true more = h
     go false false more = (h.0, more)
 
-all_after : (s r : Stamp) (es : List Edit) → before s r ≡ true → AllByRecursion (λ f. before r f.stamp ≡ true) es → AllByRecursion (λ f. before s f.stamp ≡ true) es
+all_after : (s r : Stamp) (es : List Edit) → before s r ≡ true → AllByRecursion (λ f. before r f.stamp ≡ true) es
+    → AllByRecursion (λ f. before s f.stamp ≡ true) es
 all_after s r [] b h = tt
 all_after s r (f ∷ fs) b h = (before_trans s r f.stamp b h.0, all_after s r fs b h.1)
 
@@ -47,7 +50,8 @@ pub with_edit-rising : (e : Edit) (es : List Edit) → IsRising es → IsRising 
 with_edit-rising e [] r = (tt, tt)
 with_edit-rising e (f ∷ fs) r = go (before e.stamp f.stamp) refl (same_stamp e.stamp f.stamp) refl (with_edit-rising e fs r.1)
   where
-    go : (c : Bool) → before e.stamp f.stamp ≡ c → (d : Bool) → same_stamp e.stamp f.stamp ≡ d → IsRising (with_edit e fs) → IsRising (cond c (e ∷ f ∷ fs) (cond d (f ∷ fs) (f ∷ with_edit e fs)))
+    go : (c : Bool) → before e.stamp f.stamp ≡ c → (d : Bool) → same_stamp e.stamp f.stamp ≡ d → IsRising (with_edit e fs)
+        → IsRising (cond c (e ∷ f ∷ fs) (cond d (f ∷ fs) (f ∷ with_edit e fs)))
     go true c d same more = ((c, all_after e.stamp f.stamp fs c r.0), r)
     go false c true same more = r
     go false c false same more = (after f.stamp e fs (before_other e.stamp f.stamp c same) r.0, more)
@@ -61,7 +65,9 @@ pub with_edit-members : (g e : Edit) (es : List Edit) → Member g (with_edit e 
 with_edit-members g e [] m = elim m [ inl q ↦ inl q | inr n ↦ absurd n ]
 with_edit-members g e (f ∷ fs) m = go (before e.stamp f.stamp) (same_stamp e.stamp f.stamp) m (λ k. with_edit-members g e fs k)
   where
-    go : (c d : Bool) → Member g (cond c (e ∷ f ∷ fs) (cond d (f ∷ fs) (f ∷ with_edit e fs))) → (Member g (with_edit e fs) → (e ≡ g) ⊎ Member g fs) → (e ≡ g) ⊎ Member g (f ∷ fs)
+    go : (c d : Bool) → Member g (cond c (e ∷ f ∷ fs) (cond d (f ∷ fs) (f ∷ with_edit e fs)))
+        → (Member g (with_edit e fs) → (e ≡ g) ⊎ Member g fs)
+        → (e ≡ g) ⊎ Member g (f ∷ fs)
     go true d n more = n
     go false true n more = inr n
     go false false n more = elim n [ inl q ↦ inr (inl q) | inr k ↦ elim (more k) [ inl q ↦ inl q | inr l ↦ inr (inr l) ] ]
@@ -79,7 +85,8 @@ pub with_edit-has : (e : Edit) (es : List Edit) → ((f : Edit) → Member f es 
 with_edit-has e [] a = inl refl
 with_edit-has e (f ∷ fs) a = go (before e.stamp f.stamp) (same_stamp e.stamp f.stamp) refl (with_edit-has e fs (λ g m s. a g (inr m) s))
   where
-    go : (c d : Bool) → same_stamp e.stamp f.stamp ≡ d → Member e (with_edit e fs) → Member e (cond c (e ∷ f ∷ fs) (cond d (f ∷ fs) (f ∷ with_edit e fs)))
+    go : (c d : Bool) → same_stamp e.stamp f.stamp ≡ d → Member e (with_edit e fs)
+        → Member e (cond c (e ∷ f ∷ fs) (cond d (f ∷ fs) (f ∷ with_edit e fs)))
     go true d same more = inl refl
     go false true same more = inl (a f (inl refl) (same_stamp-true e.stamp f.stamp same))
     go false false same more = inr more
@@ -142,7 +149,9 @@ rising-agree (x ∷ xs) r e f m n s =
     ]
 
 -- two rising lists with the same members are equal
-pub rising-same : (es fs : List Edit) → IsRising es → IsRising fs → ((e : Edit) → Member e es → Member e fs) → ((e : Edit) → Member e fs → Member e es) → es ≡ fs
+pub rising-same : (es fs : List Edit) → IsRising es → IsRising fs → ((e : Edit) → Member e es → Member e fs)
+    → ((e : Edit) → Member e fs → Member e es)
+    → es ≡ fs
 rising-same [] [] r s there back = refl
 rising-same [] (f ∷ fs) r s there back = absurd (back f (inl refl))
 rising-same (e ∷ es) [] r s there back = absurd (there e (inl refl))

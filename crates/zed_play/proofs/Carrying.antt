@@ -63,19 +63,26 @@ met_nothing n d g nothing = ap (λ e. touched (piece_of e) (tile_at g.scene.tile
 
 onto_nothing : (n : Place) (g : Game) → element_at g.scene n ≡ 0 → comes_onto n g ≡ Some (with_scene (shift 0 n g.scene) g)
 unfolding is_walkable
-onto_nothing n g nothing = ap (λ e. if e == 4 then Some g else if is_walkable e then Some (with_scene (shift 0 n g.scene) g) else None) nothing
+onto_nothing n g nothing =
+    ap (λ e. if e == 4 then Some g else if is_walkable e then Some (with_scene (shift 0 n g.scene) g) else None) nothing
 
-over : (b : BoardData) (side : Side) (from : Place) (p q : Playtest) → (tile_at b.tiles (beyond side from)).element ≡ 0 → entered_on (Edge side from) (Some b) p ≡ Some q → HasTheSame q p
+over : (b : BoardData) (side : Side) (from : Place) (p q : Playtest) → (tile_at b.tiles (beyond side from)).element ≡ 0
+    → entered_on (Edge side from) (Some b) p ≡ Some q
+    → HasTheSame q p
 over b side from p q nothing e =
     let n = beyond side from in
     let g = game_on b p.game in
     let h = with_scene (shift 0 n g.scene) g in
-    let comes : comes_by (Edge side from) g ≡ Some h = ap (comes_onto n) (met_nothing n (step_of side) g nothing) ∙ onto_nothing n g nothing in
-    let there : Some (goes_on (bounds_of b.properties) h p) ≡ Some q = sym (ap (λ o. Some (arrives (bounds_of b.properties) o p)) comes) ∙ e in
+    let comes : comes_by (Edge side from) g ≡ Some h =
+    ap (comes_onto n) (met_nothing n (step_of side) g nothing) ∙ onto_nothing n g nothing in
+    let there : Some (goes_on (bounds_of b.properties) h p) ≡ Some q =
+    sym (ap (λ o. Some (arrives (bounds_of b.properties) o p)) comes) ∙ e in
     let is : goes_on (bounds_of b.properties) h p ≡ q = cc in
     let k = shifted_keeps (slice_get g.scene.stats 0) n g.scene in
     subst (λ x. HasTheSame x p) is (k.0, k.1, refl, refl, refl)
 
-pub edges_take_all : (w : Contents) (n : ℕ) (b : BoardData) (side : Side) (from : Place) (p q : Playtest) → slice_get w.boards n ≡ Some b → (tile_at b.tiles (beyond side from)).element ≡ 0 → entered w n (Edge side from) p ≡ Some q → HasTheSame q p
+pub edges_take_all : (w : Contents) (n : ℕ) (b : BoardData) (side : Side) (from : Place) (p q : Playtest) → slice_get w.boards n ≡ Some b
+    → (tile_at b.tiles (beyond side from)).element ≡ 0 → entered w n (Edge side from) p ≡ Some q
+    → HasTheSame q p
 edges_take_all w n b side from p q there nothing e =
     over b side from p q nothing (sym (ap (λ o. entered_on (Edge side from) o p) there) ∙ e)

@@ -41,7 +41,9 @@ front_tiger : (a : Stat) (s : Scene) → Front (Is (tiger a s))
 unfolding tiger
 front_tiger a s = front_bind (draw 10) (λ r ws. lion a (tiger_fires r a s) ws) (front_draw 10) (λ r. front_lion a (tiger_fires r a s))
 
-in_game_at : (g : Game) (f : List ℕ → Drawn Scene) → Front (Is f) → (ws left : List ℕ) (y : Game) (o : Drawn Scene) → ◌≡◌ {A = Drawn Scene} o (f ws) → ◌≡◌ {A = Drawn Game} (Some (y, left)) (in_game g o) → (used : List ℕ) × ((ws ≡ used ++ left) × ((more : List ℕ) → ◌≡◌ {A = Drawn Game} (Some (y, more)) (in_game g (f (used ++ more)))))
+in_game_at : (g : Game) (f : List ℕ → Drawn Scene) → Front (Is f) → (ws left : List ℕ) (y : Game) (o : Drawn Scene)
+    → ◌≡◌ {A = Drawn Scene} o (f ws) → ◌≡◌ {A = Drawn Game} (Some (y, left)) (in_game g o)
+    → (used : List ℕ) × ((ws ≡ used ++ left) × ((more : List ℕ) → ◌≡◌ {A = Drawn Game} (Some (y, more)) (in_game g (f (used ++ more)))))
 in_game_at g f front ws left y None is e = absurd (cc)
 in_game_at g f front ws left y (Some (s, mid)) is e =
     let pair : ◌≡◌ {A = Game × List ℕ} (y, left) (with_scene s g, mid) = cc in
@@ -111,7 +113,10 @@ front_look k i a g = front_look_as (is_due k.tick i a.cycle) k i a g
 -- ---- the step
 
 -- a look, and then the rest of the chain
-look_on : (k : Asked) (n : ℕ) (s : Stat) (g h : Game) (ws left : List ℕ) (x : Game) (rest : List ℕ) → looked_at g ≡ Some s → LooksAt k g.scene.ticking s g ws (Some (h, left)) → (used : List ℕ) × ((left ≡ used ++ rest) × ((more : List ℕ) → Looks k n (next h) (used ++ more) (Some (x, more)))) → (used : List ℕ) × ((ws ≡ used ++ rest) × ((more : List ℕ) → Looks k (suc n) g (used ++ more) (Some (x, more))))
+look_on : (k : Asked) (n : ℕ) (s : Stat) (g h : Game) (ws left : List ℕ) (x : Game) (rest : List ℕ) → looked_at g ≡ Some s
+    → LooksAt k g.scene.ticking s g ws (Some (h, left))
+    → (used : List ℕ) × ((left ≡ used ++ rest) × ((more : List ℕ) → Looks k n (next h) (used ++ more) (Some (x, more))))
+    → (used : List ℕ) × ((ws ≡ used ++ rest) × ((more : List ℕ) → Looks k (suc n) g (used ++ more) (Some (x, more))))
 look_on k n s g h ws left x rest is at z =
     let y = front_look k g.scene.ticking s g ws left h at in (
       y.0 ++ z.0,
@@ -128,7 +133,9 @@ abbrev pub FrontTo : Asked → ℕ → Game → List ℕ → Drawn Game → Type
 FrontTo k n g ws None = n ≡ n
 FrontTo k n g ws (Some y) = (used : List ℕ) × ((ws ≡ used ++ y.1) × ((more : List ℕ) → Looks k n g (used ++ more) (Some (y.0, more))))
 
-look_on_to : (k : Asked) (n : ℕ) (s : Stat) (g h : Game) (ws left : List ℕ) (e : Drawn Game) → looked_at g ≡ Some s → LooksAt k g.scene.ticking s g ws (Some (h, left)) → FrontTo k n (next h) left e → FrontTo k (suc n) g ws e
+look_on_to : (k : Asked) (n : ℕ) (s : Stat) (g h : Game) (ws left : List ℕ) (e : Drawn Game) → looked_at g ≡ Some s
+    → LooksAt k g.scene.ticking s g ws (Some (h, left)) → FrontTo k n (next h) left e
+    → FrontTo k (suc n) g ws e
 look_on_to k n s g h ws left None is at z = refl
 look_on_to k n s g h ws left (Some y) is at z = look_on k n s g h ws left y.0 y.1 is at z
 
@@ -138,7 +145,8 @@ front_looks _ _ _ _ _ (over k n g ws is) = ([], (refl, λ more. over k n g more 
 front_looks _ _ _ _ _ (looked k n s g h ws left e is at rest) = look_on_to k n s g h ws left e is at (front_looks k n (next h) left e rest)
 front_looks _ _ _ _ _ (lacked k n s g ws is at) = refl
 
-pub front_step : (key : Key) (p q : Playtest) (ws left : List ℕ) → Step key p ws (Some (q, left)) → (used : List ℕ) × ((ws ≡ used ++ left) × ((more : List ℕ) → Step key p (used ++ more) (Some (q, more))))
+pub front_step : (key : Key) (p q : Playtest) (ws left : List ℕ) → Step key p ws (Some (q, left))
+    → (used : List ℕ) × ((ws ≡ used ++ left) × ((more : List ℕ) → Step key p (used ++ more) (Some (q, more))))
 front_step key p q ws left (None, (d, is)) = absurd (cc)
 front_step key p q ws left (Some (g, rest), (d, is)) =
     let pair : ◌≡◌ {A = Playtest × List ℕ} (q, left) (closed_with g p, rest) = cc in

@@ -27,8 +27,11 @@ pub kept_next : (xs : List (List ℕ)) (y : List ℕ) (ys : List (List ℕ)) →
 kept_next xs y ys = kept_of_kept (xs ++ y ∷ []) ys ∙ ap kept (append_assoc xs (y ∷ []) ys)
 
 -- a line of a list comes after those that were kept
-pub kept_on : (m s ls r : List (List ℕ)) (x : List ℕ) (i : ℕ) → m ≡ kept (s ++ x ∷ []) → x ≡ get_or ls i x → i < length ls → kept (s ++ drop i ls) ≡ r → kept (m ++ drop (i + 1) ls) ≡ r
+pub kept_on : (m s ls r : List (List ℕ)) (x : List ℕ) (i : ℕ) → m ≡ kept (s ++ x ∷ []) → x ≡ get_or ls i x → i < length ls
+    → kept (s ++ drop i ls) ≡ r
+    → kept (m ++ drop (i + 1) ls) ≡ r
 kept_on m s ls r x i is there within before =
     let after : suc i ≡ i + 1 = omega arith in
-    let first : drop i ls ≡ x ∷ drop (i + 1) ls = drop-cons ls i x within ∙ ap (λ y. y ∷ drop (suc i) ls) (sym there) ∙ ap (λ n. x ∷ drop n ls) after in
+    let first : drop i ls ≡ x ∷ drop (i + 1) ls =
+    drop-cons ls i x within ∙ ap (λ y. y ∷ drop (suc i) ls) (sym there) ∙ ap (λ n. x ∷ drop n ls) after in
     ap (λ k. kept (k ++ drop (i + 1) ls)) is ∙ kept_next s x (drop (i + 1) ls) ∙ ap (λ d. kept (s ++ d)) (sym first) ∙ before

@@ -8,7 +8,9 @@ use Rattle.zed_play.specs.Playtest.{Playtest}
 use Rattle.zed_play.specs.Step.{Looks, Steps, asked, from_first, refused}
 
 -- what is told of a step is what came of its looks
-pub step_refused : (key : Key) (p q : Playtest) (ws : List ℕ) (e : SceneError) (x : PlayError) → p.ending ≡ None → refused e p ≡ (x, q) → (e ≡ Memory) ⊎ ((e ≡ NoWords) × Looks (asked key p) 1024 (from_first p.game) ws None) → Steps (Err x) key p ws q
+pub step_refused : (key : Key) (p q : Playtest) (ws : List ℕ) (e : SceneError) (x : PlayError) → p.ending ≡ None → refused e p ≡ (x, q)
+    → (e ≡ Memory) ⊎ ((e ≡ NoWords) × Looks (asked key p) 1024 (from_first p.game) ws None)
+    → Steps (Err x) key p ws q
 step_refused key p q ws e x none told (inl memory) =
     let P : SceneError → Type 0 = λ s. refused s p ≡ (x, q) in
     let now : refused Memory p ≡ (x, q) = subst P memory told in

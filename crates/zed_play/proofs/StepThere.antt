@@ -45,11 +45,14 @@ touch_some_as some (Some i) n d g ws = then_some closed (TurnOf i (opened i g) w
 touch_some : TurnHasSome → (n : Place) (d : Way) (g : Game) (ws : List ℕ) → HasSome (Touches n d g ws)
 touch_some some n d g ws = touch_some_as some (scroll_at n g.scene) n d g ws
 
-go_some : TurnHasSome → (o : Option Place) (side : Side) (bounds : Bounds) (from : Place) (g : Game) (ws : List ℕ) → HasSome (GoesTo o side bounds from g ws)
+go_some : TurnHasSome → (o : Option Place) (side : Side) (bounds : Bounds) (from : Place) (g : Game) (ws : List ℕ)
+    → HasSome (GoesTo o side bounds from g ws)
 go_some some None side bounds from g ws = (_, refl)
-go_some some (Some n) side bounds from g ws = then_some (walks from n) (Touches n (step_of side) g ws) (touch_some some n (step_of side) g ws)
+go_some some (Some n) side bounds from g ws =
+    then_some (walks from n) (Touches n (step_of side) g ws) (touch_some some n (step_of side) g ws)
 
-player_some : TurnHasSome → (intent : Intent) (bounds : Bounds) (from : Place) (g : Game) (ws : List ℕ) → HasSome (PlayerDoes intent bounds from g ws)
+player_some : TurnHasSome → (intent : Intent) (bounds : Bounds) (from : Place) (g : Game) (ws : List ℕ)
+    → HasSome (PlayerDoes intent bounds from g ws)
 player_some some Nothing bounds from g ws = (_, refl)
 player_some some (Shoots side) bounds from g ws = (_, refl)
 player_some some (Goes side) bounds from g ws = go_some some (ahead from (step_of side)) side bounds from g ws
@@ -91,13 +94,16 @@ looks_some : TurnHasSome → (k : Asked) (n : ℕ) (g : Game) (ws : List ℕ) �
 looks_some some k zero g ws = (Some (g, ws), used_up k g ws)
 looks_some some k (suc n) g ws = by_stat (looked_at g) refl (looks_some some k n)
   where
-    by_look : (s : Stat) → looked_at g ≡ Some s → (d : Drawn Game) → LooksAt k g.scene.ticking s g ws d → ((h : Game) (left : List ℕ) → HasSome (Looks k n h left)) → HasSome (Looks k (suc n) g ws)
+    by_look : (s : Stat) → looked_at g ≡ Some s → (d : Drawn Game) → LooksAt k g.scene.ticking s g ws d
+        → ((h : Game) (left : List ℕ) → HasSome (Looks k n h left))
+        → HasSome (Looks k (suc n) g ws)
     by_look s is None look rest = (None, lacked k n s g ws is look)
     by_look s is (Some (h, left)) look rest =
         let behind = rest (next h) left in
         (behind.0, looked k n s g h ws left behind.0 is look behind.1)
 
-    by_stat : (o : Option Stat) → looked_at g ≡ o → ((h : Game) (left : List ℕ) → HasSome (Looks k n h left)) → HasSome (Looks k (suc n) g ws)
+    by_stat : (o : Option Stat) → looked_at g ≡ o → ((h : Game) (left : List ℕ) → HasSome (Looks k n h left))
+        → HasSome (Looks k (suc n) g ws)
     by_stat None is rest = (Some (g, ws), over k n g ws is)
     by_stat (Some s) is rest = let look = look_some some k g.scene.ticking s g ws in by_look s is look.0 look.1 rest
 

@@ -44,12 +44,14 @@ touch_one_as one (Some i) n d g ws a b x y = then_one closed (TurnOf i (opened i
 touch_one : TurnIsOne → (n : Place) (d : Way) (g : Game) (ws : List ℕ) → IsOne (Touches n d g ws)
 touch_one one n d g ws a b x y = touch_one_as one (scroll_at n g.scene) n d g ws a b x y
 
-go_one : TurnIsOne → (o : Option Place) (side : Side) (bounds : Bounds) (from : Place) (g : Game) (ws : List ℕ) → IsOne (GoesTo o side bounds from g ws)
+go_one : TurnIsOne → (o : Option Place) (side : Side) (bounds : Bounds) (from : Place) (g : Game) (ws : List ℕ)
+    → IsOne (GoesTo o side bounds from g ws)
 go_one one None side bounds from g ws a b is also = is ∙ sym also
 go_one one (Some n) side bounds from g ws a b x y =
     then_one (walks from n) (Touches n (step_of side) g ws) (touch_one one n (step_of side) g ws) a b x y
 
-player_one : TurnIsOne → (intent : Intent) (bounds : Bounds) (from : Place) (g : Game) (ws : List ℕ) → IsOne (PlayerDoes intent bounds from g ws)
+player_one : TurnIsOne → (intent : Intent) (bounds : Bounds) (from : Place) (g : Game) (ws : List ℕ)
+    → IsOne (PlayerDoes intent bounds from g ws)
 player_one one Nothing bounds from g ws a b is also = is ∙ sym also
 player_one one (Shoots side) bounds from g ws a b is also = is ∙ sym also
 player_one one (Goes side) bounds from g ws a b x y = go_one one _ side bounds from g ws a b x y
@@ -76,14 +78,18 @@ look_one : TurnIsOne → (k : Asked) (i : ℕ) (s : Stat) (g : Game) (ws : List 
 look_one one k i s g ws a b x y = look_one_as one (is_due k.tick i s.cycle) k i s g ws a b x y
 
 -- two looks at the same stat
-same_look : TurnIsOne → (k : Asked) (i : ℕ) (s t : Stat) (g : Game) (ws : List ℕ) (a b : Drawn Game) → looked_at g ≡ Some s → looked_at g ≡ Some t → LooksAt k i s g ws a → LooksAt k i t g ws b → a ≡ b
+same_look : TurnIsOne → (k : Asked) (i : ℕ) (s t : Stat) (g : Game) (ws : List ℕ) (a b : Drawn Game) → looked_at g ≡ Some s
+    → looked_at g ≡ Some t → LooksAt k i s g ws a → LooksAt k i t g ws b
+    → a ≡ b
 same_look one k i s t g ws a b is also x y =
     let same : t ≡ s = cc in
     let P : Stat → Type 0 = λ u. LooksAt k i u g ws b in
     look_one one k i s g ws a b x (subst P same y)
 
 -- the rest of a chain, after looks that came to the same
-same_rest : (k : Asked) (n : ℕ) (h m : Game) (left more : List ℕ) (b : Drawn Game) → ◌≡◌ {A = Drawn Game} (Some (h, left)) (Some (m, more)) → Looks k n (next m) more b → Looks k n (next h) left b
+same_rest : (k : Asked) (n : ℕ) (h m : Game) (left more : List ℕ) (b : Drawn Game) → ◌≡◌ {A = Drawn Game} (Some (h, left)) (Some (m, more))
+    → Looks k n (next m) more b
+    → Looks k n (next h) left b
 same_rest k n h m left more b e rest =
     let pair : ◌≡◌ {A = Game × List ℕ} (m, more) (h, left) = cc in
     let game : m ≡ h = ap (λ x. x.0) pair in
@@ -99,7 +105,8 @@ looks_one one _ _ _ _ _ _ (over k n g ws none) (looked _ _ t _ m _ more c also y
 looks_one one _ _ _ _ _ _ (over k n g ws none) (lacked _ _ t _ _ also y) = absurd (cc)
 looks_one one _ _ _ _ _ _ (looked k n s g h ws left e is x rest) (over _ _ _ _ none) = absurd (cc)
 looks_one one _ _ _ _ _ _ (looked k n s g h ws left e is x rest) (looked _ _ t _ m _ more c also y others) =
-    let same : ◌≡◌ {A = Drawn Game} (Some (h, left)) (Some (m, more)) = same_look one k g.scene.ticking s t g ws (Some (h, left)) (Some (m, more)) is also x y in
+    let same : ◌≡◌ {A = Drawn Game} (Some (h, left)) (Some (m, more)) =
+    same_look one k g.scene.ticking s t g ws (Some (h, left)) (Some (m, more)) is also x y in
     looks_one one k n (next h) left e c rest (same_rest k n h m left more c same others)
 looks_one one _ _ _ _ _ _ (looked k n s g h ws left e is x rest) (lacked _ _ t _ _ also y) =
     let same : ◌≡◌ {A = Drawn Game} (Some (h, left)) None = same_look one k g.scene.ticking s t g ws (Some (h, left)) None is also x y in

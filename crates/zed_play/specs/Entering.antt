@@ -81,7 +81,8 @@ is_passage colour t = t.element == 11 && t.colour == colour
 -- the last passage of a colour among the first n places, if there is one
 abbrev pub passage_among : ℕ → ℕ → List Tile → Option Place
 passage_among zero colour tiles = None
-passage_among (suc n) colour tiles = if is_passage colour (tile_at tiles (place_of n)) then Some (place_of n) else passage_among n colour tiles
+passage_among (suc n) colour tiles =
+    if is_passage colour (tile_at tiles (place_of n)) then Some (place_of n) else passage_among n colour tiles
 
 -- the last passage of a colour on a board: the furthest to the right, and the lowest there
 unfoldable pub last_passage : ℕ → List Tile → Option Place

@@ -48,8 +48,11 @@ next g = with_scene (next_in g.scene) g
 pub data Looks : Asked → ℕ → Game → List ℕ → Drawn Game → Type 0 where
   used_up : (k : Asked) (g : Game) (ws : List ℕ) → Looks k zero g ws (Some (g, ws))
   over : (k : Asked) (n : ℕ) (g : Game) (ws : List ℕ) → looked_at g ≡ None → Looks k (suc n) g ws (Some (g, ws))
-  looked : (k : Asked) (n : ℕ) (a : Stat) (g h : Game) (ws left : List ℕ) (e : Drawn Game) → looked_at g ≡ Some a → LooksAt k g.scene.ticking a g ws (Some (h, left)) → Looks k n (next h) left e → Looks k (suc n) g ws e
-  lacked : (k : Asked) (n : ℕ) (a : Stat) (g : Game) (ws : List ℕ) → looked_at g ≡ Some a → LooksAt k g.scene.ticking a g ws None → Looks k (suc n) g ws None
+  looked : (k : Asked) (n : ℕ) (a : Stat) (g h : Game) (ws left : List ℕ) (e : Drawn Game) → looked_at g ≡ Some a
+      → LooksAt k g.scene.ticking a g ws (Some (h, left)) → Looks k n (next h) left e
+      → Looks k (suc n) g ws e
+  lacked : (k : Asked) (n : ℕ) (a : Stat) (g : Game) (ws : List ℕ) → looked_at g ≡ Some a → LooksAt k g.scene.ticking a g ws None
+      → Looks k (suc n) g ws None
 
 -- ---- the step
 

@@ -15,7 +15,8 @@ use Rattle.zed_playing.specs.Asking.{AsksBehind, AsksKept, AsksNoMore, AsksPlay,
 
 -- other calls in place of those that came last
 pub behind_same : {H : Type 0} (called : H → Call → H → Type 0) (words keys : Option (List ℕ)) (Later Next : Option Refusal → H → H → Type 0) (told : Option Refusal) (old new : H)
-    → AsksBehind called words keys Later told old new → ((mid : H) → Later told mid new → Next told mid new) → AsksBehind called words keys Next told old new
+    → AsksBehind called words keys Later told old new → ((mid : H) → Later told mid new → Next told mid new)
+    → AsksBehind called words keys Next told old new
 behind_same called words keys Later Next told old new asks next = elim asks [
   | inl lost ↦ inl lost
   | inr first ↦ (
@@ -32,7 +33,8 @@ behind_same called words keys Later Next told old new asks next = elim asks [
 
 -- and more behind them, where they passed
 pub behind_more : {H : Type 0} (called : H → Call → H → Type 0) (words keys : Option (List ℕ)) (Later Next : Option Refusal → H → H → Type 0) (told : Option Refusal) (old mid new : H)
-    → AsksBehind called words keys Later None old mid → ((last : H) → Later None last mid → Next told last new) → AsksBehind called words keys Next told old new
+    → AsksBehind called words keys Later None old mid → ((last : H) → Later None last mid → Next told last new)
+    → AsksBehind called words keys Next told old new
 behind_more called words keys Later Next told old mid new asks next = elim asks [
   | inl lost ↦ absurd (let no : None ≡ Some lost.0 = lost.1 in cc)
   | inr first ↦ (
@@ -59,7 +61,8 @@ second_lost called words keys Later e old mid new first lost = inr (mid, first, 
 
 -- both were had
 pub both_had : {H : Type 0} (called : H → Call → H → Type 0) (words keys : Option (List ℕ)) (told : Option Refusal) (old mid new : H)
-    → AsksKept called words None old mid → AsksKept called keys None mid new → (told ≡ None) ⊎ (told ≡ Some Memory) → AsksBehind called words keys AsksNoMore told old new
+    → AsksKept called words None old mid → AsksKept called keys None mid new → (told ≡ None) ⊎ (told ≡ Some Memory)
+    → AsksBehind called words keys AsksNoMore told old new
 both_had called words keys told old mid new first second why = inr (mid, first, inr (new, second, (refl, why)))
 
 -- ---- calls one after the other
@@ -79,7 +82,8 @@ broken_on last more calls broken =
 -- and with others in front of them
 broken_after : (last more : List Ask) (calls : List Call) → BrokenOff more calls → BrokenOff (last ++ more) (passed last ++ calls)
 broken_after last more calls broken =
-    let whole : last ++ more ≡ (last ++ broken.0) ++ broken.1 ∷ broken.2 = ap (λ asks. last ++ asks) broken.3 ∙ sym (append_assoc last broken.0 (broken.1 ∷ broken.2)) in
+    let whole : last ++ more ≡ (last ++ broken.0) ++ broken.1 ∷ broken.2 =
+        ap (λ asks. last ++ asks) broken.3 ∙ sym (append_assoc last broken.0 (broken.1 ∷ broken.2)) in
     let made : passed last ++ calls ≡ failed_at (last ++ broken.0) broken.1 =
     ap (λ c. passed last ++ c) broken.4 ∙ sym (append_assoc (passed last) (passed broken.0) (call broken.1 true ∷ []))
     ∙ ap (λ c. c ++ call broken.1 true ∷ []) (sym (passed_then last broken.0)) in
@@ -101,7 +105,8 @@ refused_on called reads last more e old new asks = (
 )
 
 -- last calls that all passed, and then more
-pub last_then : {H : Type 0} (called : H → Call → H → Type 0) (reads last more : List Ask) (told : Option Refusal) (old mid new : H) → ((e : Refusal) → told ≡ Some e → e ≡ File)
+pub last_then : {H : Type 0} (called : H → Call → H → Type 0) (reads last more : List Ask) (told : Option Refusal) (old mid new : H)
+    → ((e : Refusal) → told ≡ Some e → e ≡ File)
     → Asks called reads last None old mid → Asks called [] more told mid new → Asks called reads (last ++ more) told old new
 last_then called reads last more None old mid new file first second =
     let all : first.0 ++ second.0 ≡ passed (reads ++ (last ++ more)) =
@@ -125,7 +130,8 @@ last_then called reads last more (Some e) old mid new file first second = (
 )
 
 -- nothing was asked for where memory ran out
-pub memory_asks : {H : Type 0} (called : H → Call → H → Type 0) (reads last : List Ask) (host : H) → Asks called reads last (Some Memory) host host
+pub memory_asks : {H : Type 0} (called : H → Call → H → Type 0) (reads last : List Ask) (host : H)
+    → Asks called reads last (Some Memory) host host
 memory_asks called reads last host = asks_nothing called reads last Memory host (memory_is_other Memory refl)
 
 -- ---- files that are written
@@ -134,23 +140,27 @@ memory_asks called reads last host = asks_nothing called reads last Memory host 
 pub none_written : {H : Type 0} (called : H → Call → H → Type 0) (host : H) → Asks called [] [] None host host
 none_written called host = ([], refl, refl)
 
-pub one_written : {H : Type 0} (called : H → Call → H → Type 0) (name : List ℕ) (old new : H) → called old (call (Writing name) false) new → Asks called [] (Writing name ∷ []) None old new
+pub one_written : {H : Type 0} (called : H → Call → H → Type 0) (name : List ℕ) (old new : H) → called old (call (Writing name) false) new
+    → Asks called [] (Writing name ∷ []) None old new
 one_written called name old new is = (call (Writing name) false ∷ [], (new, is, refl), refl)
 
-pub one_unwritten : {H : Type 0} (called : H → Call → H → Type 0) (name : List ℕ) (e : Refusal) (old new : H) → e ≡ File → called old (call (Writing name) true) new
+pub one_unwritten : {H : Type 0} (called : H → Call → H → Type 0) (name : List ℕ) (e : Refusal) (old new : H) → e ≡ File
+    → called old (call (Writing name) true) new
     → Asks called [] (Writing name ∷ []) (Some e) old new
 one_unwritten called name e old new file is =
     (call (Writing name) true ∷ [], (new, is, refl), inr (inr (file, (call (Writing name) true ∷ [], ([], Writing name, [], refl, refl), refl))))
 
 -- the names of two files, one behind the other
-pub keeping_both : (words keys : Option (List ℕ)) → map (λ name. Writing name) (named words) ++ map (λ name. Writing name) (named keys) ≡ keeping words keys
+pub keeping_both : (words keys : Option (List ℕ))
+    → map (λ name. Writing name) (named words) ++ map (λ name. Writing name) (named keys) ≡ keeping words keys
 keeping_both words keys = sym (map-append (λ name. Writing name) (named words) (named keys))
 
 -- ---- a playtest
 
 -- what comes behind what is kept
 pub play_on : {H : Type 0} (called : H → Call → H → Type 0) (words keys : Option (List ℕ)) (files : List (List ℕ)) (last : List Ask) (told : Option Refusal) (old mid new : H)
-    → AsksBehind called words keys AsksNoMore None old mid → Asks called (reading files) last told mid new → AsksPlay called words keys files last told old new
+    → AsksBehind called words keys AsksNoMore None old mid → Asks called (reading files) last told mid new
+    → AsksPlay called words keys files last told old new
 play_on called words keys files last told old mid new first second =
     behind_more called words keys AsksNoMore (Asks called (reading files) last) told old mid new first
     (λ before rests. subst (λ h. Asks called (reading files) last told h new) rests.0 second)
@@ -184,11 +194,14 @@ untold_asks called words keys files last more e old new asks =
     (λ mid later. refused_on called (reading files) last more e mid new later)
 
 -- what a print refuses
-pub print_refuses : {X : Type 0} (answer : Result X Refusal) → IfErr answer (λ e. e ≡ File) → (e : Refusal) → refusal_in answer ≡ Some e → e ≡ File
+pub print_refuses : {X : Type 0} (answer : Result X Refusal) → IfErr answer (λ e. e ≡ File) → (e : Refusal) → refusal_in answer ≡ Some e
+    → e ≡ File
 print_refuses (Ok x) file e is = absurd (let no : None ≡ Some e = is in cc)
 print_refuses (Err f) file e is = (let same : f ≡ e = cc in sym same ∙ file)
 
 -- what a write refuses, with more that is told of it
-pub write_refuses : {X : Type 0} (Q : Refusal → Type 0) (answer : Result X Refusal) → IfErr answer (λ e. (e ≡ File) × Q e) → (e : Refusal) → refusal_in answer ≡ Some e → e ≡ File
+pub write_refuses : {X : Type 0} (Q : Refusal → Type 0) (answer : Result X Refusal) → IfErr answer (λ e. (e ≡ File) × Q e) → (e : Refusal)
+    → refusal_in answer ≡ Some e
+    → e ≡ File
 write_refuses Q (Ok x) file e is = absurd (let no : None ≡ Some e = is in cc)
 write_refuses Q (Err f) file e is = (let same : f ≡ e = cc in sym same ∙ file.0)

@@ -30,12 +30,14 @@ pub limit_is_other : (x : ExportError) → export_refusal x ≢ File
 limit_is_other x is = session_is_other (told.export_refusal x) is
 
 -- what `?` hands on that isn't
-pub other_on : {X : Type 0} (answer : Result X Refusal) (e : Refusal) → IsErrAnd answer (λ told. told ≡ e) → e ≢ File → IfErr answer (λ e. e ≢ File)
+pub other_on : {X : Type 0} (answer : Result X Refusal) (e : Refusal) → IsErrAnd answer (λ told. told ≡ e) → e ≢ File
+    → IfErr answer (λ e. e ≢ File)
 other_on (Ok x) e told other = absurd told
 other_on (Err x) e told other = λ is. other (sym told ∙ is)
 
 -- nothing was played where there is no playtest
-pub unopened : (w : Option Contents) (rows : ℕ) (o : Result Playtest Refusal) (words : List ℕ) (s : Stage) (e : Refusal) → (e ≡ Memory) ⊎ (o ≡ Err e)
+pub unopened : (w : Option Contents) (rows : ℕ) (o : Result Playtest Refusal) (words : List ℕ) (s : Stage) (e : Refusal)
+    → (e ≡ Memory) ⊎ (o ≡ Err e)
     → ((e ≡ Memory) × (s ≡ s)) ⊎ PerformsAny w rows o words s s (Err e)
 unopened w rows o words s e why = elim why [
   | inl memory ↦ inl (memory, refl)
@@ -43,7 +45,8 @@ unopened w rows o words s e why = elim why [
 ]
 
 -- what was played of one
-pub performed : (w v : Option Contents) (rows : ℕ) (o : Result Playtest Refusal) (p : Playtest) (words : List ℕ) (old new : Stage) (result : Result Tape Refusal) → o ≡ Ok p → v ≡ w
+pub performed : (w v : Option Contents) (rows : ℕ) (o : Result Playtest Refusal) (p : Playtest) (words : List ℕ) (old new : Stage) (result : Result Tape Refusal)
+    → o ≡ Ok p → v ≡ w
     → MatchResult result (λ t. PlaysFrom v rows p words old new (Ok (point t))) (λ e. PlaysFrom v rows p words old new (Err e))
     → MatchResult result (λ t. PerformsAny w rows o words old new (Ok (point t))) (λ e. ((e ≡ Memory) × (new ≡ old)) ⊎ PerformsAny w rows o words old new (Err e))
 performed w v rows o p words old new (Ok t) is over performs =
@@ -53,7 +56,8 @@ performed w v rows o p words old new (Err e) is over performs =
 
 -- nothing was played where there is no set of edits
 pub unread : (failed : Type 0) (t : HostContents) (going : Going) (board rows : ℕ) (words : List ℕ) (names : List (List ℕ)) (s : Stage) (e : Refusal)
-    → (e ≡ Memory) ⊎ Collects failed t names (Err e) → ((e ≡ Memory) × (s ≡ s)) ⊎ IsPerformed failed t going board rows words names s s (Err e)
+    → (e ≡ Memory) ⊎ Collects failed t names (Err e)
+    → ((e ≡ Memory) × (s ≡ s)) ⊎ IsPerformed failed t going board rows words names s s (Err e)
 unread failed t going board rows words names s e why = elim why [
   | inl memory ↦ inl (memory, refl)
   | inr first ↦ inr (Err e, first, (refl, refl))
@@ -74,13 +78,16 @@ performed_of failed t going asked board rows words names es old new (Err e) same
 ]
 
 -- a refusal that isn't told of the host, as one that may be for want of memory
-pub or_other : {X : Type 0} (answer : Result X Refusal) → IfErr answer (λ e. e ≢ File) → MatchResult answer (λ _. ⊤) (λ e. (e ≡ Memory) ⊎ (e ≢ File))
+pub or_other : {X : Type 0} (answer : Result X Refusal) → IfErr answer (λ e. e ≢ File)
+    → MatchResult answer (λ _. ⊤) (λ e. (e ≡ Memory) ⊎ (e ≢ File))
 or_other (Ok x) other = tt
 or_other (Err e) other = inr other
 
 -- what is so where nothing failed is so where something did
-pub performed_so : (p q : Type 0) (t : HostContents) (going : Going) (board rows : ℕ) (words all : List ℕ) (names : List (List ℕ)) (old first new : Stage) (r : Result Point Refusal) → (p → q)
-    → words ≡ all → old ≡ first → IsPerformed p t going board rows words names old new r → IsPerformed q t going board rows all names first new r
+pub performed_so : (p q : Type 0) (t : HostContents) (going : Going) (board rows : ℕ) (words all : List ℕ) (names : List (List ℕ)) (old first new : Stage) (r : Result Point Refusal)
+    → (p → q)
+    → words ≡ all → old ≡ first → IsPerformed p t going board rows words names old new r
+    → IsPerformed q t going board rows all names first new r
 performed_so p q t going board rows words all names old first new r so same stage is = (
   is.0,
   collected_so p q t names is.0 so is.1,

@@ -12,6 +12,7 @@ is_over_none None v w is = ap (λ x. Ok x) (sym is)
 is_over_none (Some e) v w is = absurd (cc)
 
 -- a world that was exported is that of the edits of its document
-pub exported_so : (limit : ℕ) (d : Replica) (w : Contents) → d.is_stale ≡ false → Answers {X = Contents} (λ x. x) (unless_stale d (exported limit)) (Ok w)
+pub exported_so : (limit : ℕ) (d : Replica) (w : Contents) → d.is_stale ≡ false
+    → Answers {X = Contents} (λ x. x) (unless_stale d (exported limit)) (Ok w)
     → exported limit (replay d.edits) ≡ Ok w
 exported_so limit d w sound is = is_over_none (refusal_of limit (replay d.edits)) (world_of (replay d.edits)) w (rw sound at is)

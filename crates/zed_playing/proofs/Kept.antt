@@ -23,7 +23,8 @@ use Rattle.zed_playing.specs.Led.{Led}
 
 -- ---- files that are written
 
-pub half_of : (name bytes : List ℕ) (t : HostContents) (old new : Option HostContents) → old ≡ Some t → IfSome old (λ t. StillTells (HalfWritten name bytes t) new)
+pub half_of : (name bytes : List ℕ) (t : HostContents) (old new : Option HostContents) → old ≡ Some t
+    → IfSome old (λ t. StillTells (HalfWritten name bytes t) new)
     → StillTells (HalfKept (Some name) bytes t) new
 half_of name bytes t old new at half = rw at at half
 
@@ -32,7 +33,8 @@ pub half_first : (P Q : HostContents → Type 0) (new : Option HostContents) →
 half_first P Q new half = (half.0, inl half.1, half.2)
 
 -- or the second
-pub half_second : (P Q : HostContents → Type 0) (result : Result ⊤ Refusal) (new : Option HostContents) → OnErr result (StillTells Q new) → OnErr result (StillTells (λ u. P u ⊎ Q u) new)
+pub half_second : (P Q : HostContents → Type 0) (result : Result ⊤ Refusal) (new : Option HostContents) → OnErr result (StillTells Q new)
+    → OnErr result (StillTells (λ u. P u ⊎ Q u) new)
 half_second P Q (Ok u) new half = tt
 half_second P Q (Err e) new half = (half.0, inr half.1, half.2)
 
@@ -49,28 +51,36 @@ recorded_half words keys p rest wb kb t (Err e) new all_words all_keys half = λ
 
 -- ---- what is so where nothing failed is so where something did
 
-pub played_so : (p q : Type 0) (t : HostContents) (r : Request) (l : Led) (x : Result Point Refusal) → (p → q) → IsPlayed p t r l x → IsPlayed q t r l x
+pub played_so : (p q : Type 0) (t : HostContents) (r : Request) (l : Led) (x : Result Point Refusal) → (p → q) → IsPlayed p t r l x
+    → IsPlayed q t r l x
 played_so p q t r l x so is = (is.0, collected_so p q t r.files is.0 so is.1, is.2)
 
 -- ---- a playtest that is kept
 
 -- what is kept can't be read
-pub lost_ends : (failed : Type 0) (t : HostContents) (q : Request) (l : Led) (e : Refusal) (new : Option HostContents) → l.behind ≡ l.before → new ≡ Some t
+pub lost_ends : (failed : Type 0) (t : HostContents) (q : Request) (l : Led) (e : Refusal) (new : Option HostContents) → l.behind ≡ l.before
+    → new ≡ Some t
     → (e ≡ Memory) ⊎ ((e ≡ File) × failed) → EndsKept failed t q l (Err e) new
-lost_ends failed t q l e new same at why = (t, inl (refl, elim why [ inl memory ↦ inl memory | inr file ↦ inr (inl (file.0, file.1, same)) ]), at)
+lost_ends failed t q l e new same at why =
+    (t, inl (refl, elim why [ inl memory ↦ inl memory | inr file ↦ inr (inl (file.0, file.1, same)) ]), at)
 
 -- the playtest is refused
-pub unplayed_ends : {X : Type 0} (failed : Type 0) (t : HostContents) (q : Request) (l : Led) (e : Refusal) (new : Option HostContents) → new ≡ Some t
+pub unplayed_ends : {X : Type 0} (failed : Type 0) (t : HostContents) (q : Request) (l : Led) (e : Refusal) (new : Option HostContents)
+    → new ≡ Some t
     → ((e ≡ Memory) × X) ⊎ IsPlayed failed t q l (Err e) → EndsKept failed t q l (Err e) new
 unplayed_ends failed t q l e new at why = (t, inl (refl, elim why [ inl memory ↦ inl memory.0 | inr played ↦ inr (inr played) ]), at)
 
 -- memory runs out behind it
-pub memory_ends : (failed : Type 0) (t : HostContents) (q : Request) (l : Led) (e : Refusal) (new : Option HostContents) → new ≡ Some t → e ≡ Memory → EndsKept failed t q l (Err e) new
+pub memory_ends : (failed : Type 0) (t : HostContents) (q : Request) (l : Led) (e : Refusal) (new : Option HostContents) → new ≡ Some t
+    → e ≡ Memory
+    → EndsKept failed t q l (Err e) new
 memory_ends failed t q l e new at memory = (t, inl (refl, inl memory), at)
 
 -- it isn't kept
-pub unkept_ends : (failed : Type 0) (t : HostContents) (q : Request) (l : Led) (p : Point) (e : Refusal) (middle new : Option HostContents) → middle ≡ Some t → IsPlayed failed t q l (Ok p)
-    → ((e ≡ Memory) × (new ≡ middle)) ⊎ ((e ≡ File) × failed) → (e ≡ File → StillTells (HalfRecorded q.words q.keys p l.rest t) new) → EndsKept failed t q l (Err e) new
+pub unkept_ends : (failed : Type 0) (t : HostContents) (q : Request) (l : Led) (p : Point) (e : Refusal) (middle new : Option HostContents)
+    → middle ≡ Some t → IsPlayed failed t q l (Ok p)
+    → ((e ≡ Memory) × (new ≡ middle)) ⊎ ((e ≡ File) × failed) → (e ≡ File → StillTells (HalfRecorded q.words q.keys p l.rest t) new)
+    → EndsKept failed t q l (Err e) new
 unkept_ends failed t q l p e middle new at played why half = elim why [
   | inl memory ↦ memory_ends failed t q l e new (memory.1 ∙ at) memory.0
   | inr file ↦ (let h = half file.0 in (h.0, inr (file.1, file.0, (p, played, h.1)), h.2))
@@ -78,10 +88,13 @@ unkept_ends failed t q l p e middle new at played why half = elim why [
 
 -- ---- what is told of it
 
-pub refused_ends : (failed : Type 0) (t : HostContents) (q : Request) (l : Led) (e : Refusal) (new : Option HostContents) → EndsKept failed t q l (Err e) new → EndsPlay failed t q l (Err e) new
+pub refused_ends : (failed : Type 0) (t : HostContents) (q : Request) (l : Led) (e : Refusal) (new : Option HostContents)
+    → EndsKept failed t q l (Err e) new
+    → EndsPlay failed t q l (Err e) new
 refused_ends failed t q l e new ends = (ends.0, elim ends.1 [ inl before ↦ inl before | inr unkept ↦ inr (inl unkept) ], ends.2)
 
-pub told_ends : (result : Result ⊤ Refusal) (old middle now : ℕ) (t : HostContents) (q : Request) (l : Led) (text : List ℕ) (mid new : Option HostContents) → old ≤ middle → middle ≤ now
+pub told_ends : (result : Result ⊤ Refusal) (old middle now : ℕ) (t : HostContents) (q : Request) (l : Led) (text : List ℕ) (mid new : Option HostContents)
+    → old ≤ middle → middle ≤ now
     → EndsKept (Rose old middle) t q l (Ok text) mid
     → ((u : HostContents) → mid ≡ Some u → OnOk result (new ≡ Some (with_printed text u)))
     → ((u : HostContents) → mid ≡ Some u → OnErr result (StillTells (HalfPrinted text u) new))
@@ -98,14 +111,16 @@ told_ends (Err e) old middle now t q l text mid new up more kept done half file 
     (h.0, inr (inr (rose_later old middle now up count, file, (p, played, subst (λ s. HalfPrinted s there h.0) kept.2 h.1))), h.2)
 
 -- what was drawn stays as it is where the terminal is left
-pub left_stage : (drawn drawn_then : Option (List (List ℕ))) (foretold foretold_then : Option (List Bool)) (left : Option (List Input)) (chance : Chances) → drawn_then ≡ drawn → foretold_then ≡ foretold
+pub left_stage : (drawn drawn_then : Option (List (List ℕ))) (foretold foretold_then : Option (List Bool)) (left : Option (List Input)) (chance : Chances)
+    → drawn_then ≡ drawn → foretold_then ≡ foretold
     → stage drawn foretold left None chance ≡ stage drawn_then foretold_then left None chance
 left_stage drawn drawn_then foretold foretold_then left chance same still =
     ap (λ d. stage d foretold left None chance) (sym same) ∙ ap (λ f. stage drawn_then f left None chance) (sym still)
 
 -- so all that is said of where the devices were led
 pub left_led : (P : Led → Type 0) (before : Stage) (rest : List Key) (drawn drawn_then : Option (List (List ℕ))) (foretold foretold_then : Option (List Bool)) (left : Option (List Input)) (chance : Chances)
-    → drawn_then ≡ drawn → foretold_then ≡ foretold → P (record { before = before; rest = rest; behind = stage drawn foretold left None chance })
+    → drawn_then ≡ drawn → foretold_then ≡ foretold
+    → P (record { before = before; rest = rest; behind = stage drawn foretold left None chance })
     → P (record { before = before; rest = rest; behind = stage drawn_then foretold_then left None chance })
 left_led P before rest drawn drawn_then foretold foretold_then left chance same still is =
     subst (λ s. P (record { before = before; rest = rest; behind = s })) (left_stage drawn drawn_then foretold foretold_then left chance same still) is
@@ -113,11 +128,14 @@ left_led P before rest drawn drawn_then foretold foretold_then left chance same 
 -- ---- the failures of devices
 
 -- what `?` hands on tells of the same
-pub keys_on : {X : Type 0} (answer : Result X Refusal) (e : Refusal) (old new : ℕ) → IsErrAnd answer (λ told. told ≡ e) → Counts (is_of_keys e) old new → Counts (is_key_fault answer) old new
+pub keys_on : {X : Type 0} (answer : Result X Refusal) (e : Refusal) (old new : ℕ) → IsErrAnd answer (λ told. told ≡ e)
+    → Counts (is_of_keys e) old new
+    → Counts (is_key_fault answer) old new
 keys_on (Ok x) e old new told counts = absurd told
 keys_on (Err x) e old new told counts = subst (λ f. Counts (is_of_keys f) old new) (sym told) counts
 
-pub screen_on : {X : Type 0} (answer : Result X Refusal) (e : Refusal) (old new : ℕ) → IsErrAnd answer (λ told. told ≡ e) → Counts (is_of_screen e) old new
+pub screen_on : {X : Type 0} (answer : Result X Refusal) (e : Refusal) (old new : ℕ) → IsErrAnd answer (λ told. told ≡ e)
+    → Counts (is_of_screen e) old new
     → Counts (is_screen_fault answer) old new
 screen_on (Ok x) e old new told counts = absurd told
 screen_on (Err x) e old new told counts = subst (λ f. Counts (is_of_screen f) old new) (sym told) counts
@@ -133,13 +151,16 @@ counts_before failing old middle new same counts = subst (λ n. Counts failing o
 -- ---- the failures of the host
 
 -- what a later step tells
-pub tells_later : {H X : Type 0} (faults failed : H → ℕ) (answer : Result X Refusal) (old mid new : H) → NoneForgotten faults failed old mid → TellsFailures faults failed answer mid new
+pub tells_later : {H X : Type 0} (faults failed : H → ℕ) (answer : Result X Refusal) (old mid new : H) → NoneForgotten faults failed old mid
+    → TellsFailures faults failed answer mid new
     → TellsFailures faults failed answer old new
 tells_later faults failed (Ok x) old mid new before tells = (none_later faults failed old mid new before tells.0, tt)
 tells_later faults failed (Err e) old mid new before tells =
     (none_later faults failed old mid new before tells.0, λ is. rose_later (failed old) (failed mid) (failed new) before.1 (tells.1 is))
 
 -- what it refuses
-pub refuses_later : {X : Type 0} (P : Refusal → Type 0) (answer : Result X Refusal) (old mid new : ℕ) → old ≤ mid → IfErr answer (λ e. P e × Rose mid new) → IfErr answer (λ e. P e × Rose old new)
+pub refuses_later : {X : Type 0} (P : Refusal → Type 0) (answer : Result X Refusal) (old mid new : ℕ) → old ≤ mid
+    → IfErr answer (λ e. P e × Rose mid new)
+    → IfErr answer (λ e. P e × Rose old new)
 refuses_later P (Ok x) old mid new up err = tt
 refuses_later P (Err e) old mid new up err = (err.0, rose_later old mid new up err.1)

@@ -16,7 +16,8 @@ use Rattle.zed_playing.specs.Refusing.{told_of}
 
 -- what comes of a playtest that is begun with words of chance
 abbrev pub PlaysFrom : Option Contents → ℕ → Playtest → List ℕ → Stage → Stage → Result Point Refusal → Type 0
-PlaysFrom w rows p words old new r = (answer : Result Point TurnError) × Performs w (at_start rows p words) old new answer × (r ≡ told_of answer)
+PlaysFrom w rows p words old new r =
+    (answer : Result Point TurnError) × Performs w (at_start rows p words) old new answer × (r ≡ told_of answer)
 
 -- the same where it could be begun; or why it couldn't
 abbrev pub PerformsAny : Option Contents → ℕ → Result Playtest Refusal → List ℕ → Stage → Stage → Result Point Refusal → Type 0

@@ -61,7 +61,8 @@ FailedToTell failed t q l e u =
 
 -- a board that is played and kept, and of which this is to be told, ends so
 abbrev pub EndsKept : Type 0 → HostContents → Request → Led → Result (List ℕ) Refusal → Option HostContents → Type 0
-EndsKept failed t q l (Ok text) new = (p : Point) × IsPlayed failed t q l (Ok p) × (text ≡ report_of p.play) × (new ≡ Some (kept_after q l p t))
+EndsKept failed t q l (Ok text) new =
+    (p : Point) × IsPlayed failed t q l (Ok p) × (text ≡ report_of p.play) × (new ≡ Some (kept_after q l p t))
 EndsKept failed t q l (Err e) new = StillTells (λ u. RefusedBefore failed t q l e u ⊎ FailedToKeep failed t q l e u) new
 
 -- and so does one of which it is told

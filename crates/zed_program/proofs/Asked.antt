@@ -15,14 +15,17 @@ use Rattle.zed_words.specs.Commands.{Command, IsRefusedAloud}
 use Rattle.zed_program.specs.Outcome.{SaysWhy}
 
 -- memory was lacking for the words, whatever they asked for
-pub memory_asks : {H : Type 0} (called : H → Call → H → Type 0) (command : Option Command) (old new : H) → ComplainsOf called (line_of Memory) old new → RunAsks called command 1 old new
+pub memory_asks : {H : Type 0} (called : H → Call → H → Type 0) (command : Option Command) (old new : H)
+    → ComplainsOf called (line_of Memory) old new
+    → RunAsks called command 1 old new
 memory_asks called None old new is = (line_of Memory, inr (refl, refl), is)
 memory_asks called (Some command) old new is =
     inr (refl, (Memory, old, asks_nothing called (reads_of command) (last_of command) Memory old (memory_is_other Memory refl), is))
 
 -- words that ask for nothing, or for which memory was lacking
 pub words_ask : {H : Type 0} (called : H → Call → H → Type 0) (command : Option Command) (error : ParseError) (status : ℕ) (text : List ℕ) (old new : H)
-    → (error ≡ parse.Memory) ⊎ ((command ≡ None) × IsRefusedAloud error) → SaysWhy error status text → ComplainsOf called text old new → RunAsks called command status old new
+    → (error ≡ parse.Memory) ⊎ ((command ≡ None) × IsRefusedAloud error) → SaysWhy error status text → ComplainsOf called text old new
+    → RunAsks called command status old new
 words_ask called command parse.Memory status text old new why says is =
     subst (λ n. RunAsks called command n old new) (sym says.0) (memory_asks called command old new (subst (λ line. ComplainsOf called line old new) says.1 is))
 words_ask called command (parse.Refused s) status text old new why says is = elim why [
@@ -33,7 +36,8 @@ words_ask called command (parse.Refused s) status text old new why says is = eli
 ]
 
 -- the calls of a run
-run_calls : {H : Type 0} (called : H → Call → H → Type 0) (command : Option Command) (status : ℕ) (old new : H) → RunAsks called command status old new
+run_calls : {H : Type 0} (called : H → Call → H → Type 0) (command : Option Command) (status : ℕ) (old new : H)
+    → RunAsks called command status old new
     → (calls : List Call) × Leads called calls old new
 run_calls called None status old new asks =
     (call (Complaining asks.0) asks.2.0 ∷ [], leads_one called (call (Complaining asks.0) asks.2.0) old new asks.2.1)
@@ -47,7 +51,8 @@ run_calls called (Some command) status old new asks = elim asks [
 ]
 
 -- where no failure was counted, no fault was
-pub run_calm : {H : Type 0} (called : H → Call → H → Type 0) (failed faults : H → ℕ) → CountsFailures called failed → CountsNoFault called faults
+pub run_calm : {H : Type 0} (called : H → Call → H → Type 0) (failed faults : H → ℕ) → CountsFailures called failed
+    → CountsNoFault called faults
     → (command : Option Command) (status : ℕ) (old new : H) → RunAsks called command status old new
     → faults old ≤ failed old → NothingFailed (failed old) (failed new) → NothingFailed (faults old) (faults new)
 run_calm called failed faults law none command status old new asks within calm =

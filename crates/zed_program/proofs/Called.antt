@@ -13,9 +13,11 @@ use Rattle.zed_host.specs.Calls.{Call}
 use Rattle.zed_worlds.specs.Shown.{CallsOnce, IsOfPlay, is_of_playing}
 
 -- no device was called by words that need none
-pub none_called : (command : Option Command) (status : ℕ) (links : List LinkSeen) (foretold : Option (List Bool)) (L S K : Type 0) → L → S → K
+pub none_called : (command : Option Command) (status : ℕ) (links : List LinkSeen) (foretold : Option (List Bool)) (L S K : Type 0) → L → S
+    → K
     → calls_links command ≡ false → calls_screen command ≡ false → CallsDevices command status links links foretold foretold L S K
-none_called None status links foretold L S K l s k off dark = record { pulls = inl tt; links = λ _. l; shows = tt; screen = λ _. s; keys = λ _. k }
+none_called None status links foretold L S K l s k off dark =
+    record { pulls = inl tt; links = λ _. l; shows = tt; screen = λ _. s; keys = λ _. k }
 none_called (Some (Save profile out files)) status links foretold L S K l s k off dark =
     record { pulls = inl tt; links = λ _. l; shows = tt; screen = λ _. s; keys = λ _. k }
 none_called (Some (Check profile files)) status links foretold L S K l s k off dark =
@@ -45,8 +47,10 @@ none_called_yet command links foretold L S K l s k =
     record { pulls = inr (refl, l); links = λ _. l; shows = words_lack command foretold foretold S s; screen = λ _. s; keys = λ _. k }
 
 -- the words asked for nothing, or memory was lacking for them
-pub none_called_for : (command : Option Command) (error : ParseError) (status : ℕ) (text : List ℕ) (links : List LinkSeen) (foretold : Option (List Bool)) (L S K : Type 0) → L → S → K
-    → (error ≡ parse.Memory) ⊎ ((command ≡ None) × IsRefusedAloud error) → SaysWhy error status text → CallsDevices command status links links foretold foretold L S K
+pub none_called_for : (command : Option Command) (error : ParseError) (status : ℕ) (text : List ℕ) (links : List LinkSeen) (foretold : Option (List Bool)) (L S K : Type 0)
+    → L → S → K
+    → (error ≡ parse.Memory) ⊎ ((command ≡ None) × IsRefusedAloud error) → SaysWhy error status text
+    → CallsDevices command status links links foretold foretold L S K
 none_called_for command parse.Memory status text links foretold L S K l s k why says =
     subst (λ n. CallsDevices command n links links foretold foretold L S K) (sym says.0) (none_called_yet command links foretold L S K l s k)
 none_called_for command (parse.Refused t) status text links foretold L S K l s k why says = elim why [
@@ -55,7 +59,8 @@ none_called_for command (parse.Refused t) status text links foretold L S K l s k
 ]
 
 -- which status is answered then
-pub status_for : (command : Option Command) (error : ParseError) (status : ℕ) (text : List ℕ) → (error ≡ parse.Memory) ⊎ ((command ≡ None) × IsRefusedAloud error) → SaysWhy error status text
+pub status_for : (command : Option Command) (error : ParseError) (status : ℕ) (text : List ℕ)
+    → (error ≡ parse.Memory) ⊎ ((command ≡ None) × IsRefusedAloud error) → SaysWhy error status text
     → (IsSome command → (status ≡ 0) ⊎ (status ≡ 1)) × (command ≡ None → (status ≡ 2) ⊎ (status ≡ 1))
 status_for command parse.Memory status text why says = (λ some. inr says.0, λ none. inr says.0)
 status_for command (parse.Refused t) status text why says = (
@@ -70,12 +75,14 @@ shown_once (Ok u) old new kept once = inl (refl, once)
 shown_once (Err e) old new kept why = inr (refl, elim why [ inl fault ↦ inl fault.1 | inr stays ↦ inr stays ])
 
 -- neither screen nor keys were asked for anything
-pub kept_idle : {H : Type 0} (called : H → Call → H → Type 0) (host : H) (result : Result ⊤ Refusal) (kept : Type 0) → kept → IfErr result (λ e. IsOfPlay called e host ⊎ kept)
+pub kept_idle : {H : Type 0} (called : H → Call → H → Type 0) (host : H) (result : Result ⊤ Refusal) (kept : Type 0) → kept
+    → IfErr result (λ e. IsOfPlay called e host ⊎ kept)
 kept_idle called host (Ok u) kept is = tt
 kept_idle called host (Err e) kept is = inr is
 
 -- nor was the screen, where a board wasn't shown, unless it failed
-pub shown_idle : {H : Type 0} (called : H → Call → H → Type 0) (host : H) (result : Result ⊤ Refusal) (old new : Option (List Bool)) (S K : Type 0) → K → CallsOnce result old new S
+pub shown_idle : {H : Type 0} (called : H → Call → H → Type 0) (host : H) (result : Result ⊤ Refusal) (old new : Option (List Bool)) (S K : Type 0)
+    → K → CallsOnce result old new S
     → IfErr result (λ e. IsOfPlay called e host ⊎ (S × K))
 shown_idle called host (Ok u) old new S K k once = tt
 shown_idle called host (Err e) old new S K k once = elim once [ inl fault ↦ inl (inl (ap is_of_playing fault.0)) | inr s ↦ inr (s, k) ]

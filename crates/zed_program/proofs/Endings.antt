@@ -26,24 +26,29 @@ use Rattle.zed_making.proofs.Others.{merged_turns}
 use Rattle.zed_worlds.proofs.Endings.{save_so, check_so, show_so, play_so}
 
 -- what holds of a command where the host failed holds where it may have failed
-pub comes_so : (old new : Devices) (p q : Type 0) (command : Command) (t : HostContents) (r : Result Effect Refusal) → (p → q) → ComesTo p old new command t r → ComesTo q old new command t r
+pub comes_so : (old new : Devices) (p q : Type 0) (command : Command) (t : HostContents) (r : Result Effect Refusal) → (p → q)
+    → ComesTo p old new command t r
+    → ComesTo q old new command t r
 comes_so old new p q (Save profile out files) t r so is = save_so t (limit_of profile) out files p q r so is
 comes_so old new p q (Check profile files) t r so is = check_so t (limit_of profile) files p q r so is
 comes_so old new p q (New out world from name) t r so is = create_so t out world from name p q r so is
 comes_so old new p q (EditFile file replica words) t r so is = edit_so t file replica words p q r so is
 comes_so old new p q (Merge out world files) t r so is = is
 comes_so old new p q (Show profile board files) t r so is = show_so old.stage new.stage t (limit_of profile) board files p q r so is
-comes_so old new p q (Play profile board chance files) t r so is = play_so old.stage new.stage t (limit_of profile) board chance files p q r so is
+comes_so old new p q (Play profile board chance files) t r so is =
+    play_so old.stage new.stage t (limit_of profile) board chance files p q r so is
 
 -- a text was written to the standard error, or the host failed at it
-pub complained : (result : Result ⊤ WriteError) (old new : ℕ) (text : List ℕ) (t : HostContents) (before after : Option HostContents) → before ≡ Some t
+pub complained : (result : Result ⊤ WriteError) (old new : ℕ) (text : List ℕ) (t : HostContents) (before after : Option HostContents)
+    → before ≡ Some t
     → OnOk result (after ≡ Some (with_complaint text t)) → OnErr result (IfSome before (λ t. StillTells (HalfComplained text t) after))
     → Counts (is_err result) old new → IsComplained (Rose old new) text t after
 complained (Ok u) old new text t before after at told half count = inl told
 complained (Err e) old new text t before after at told half count = inr (count, rw at at half)
 
 -- a merge that was refused for too many turns
-merge_turned : (links after : List LinkSeen) (out : List ℕ) (world count : ℕ) (e : Refusal) → ComesToMerge links after out world count (Err e) → e ≡ TooManyTurns
+merge_turned : (links after : List LinkSeen) (out : List ℕ) (world count : ℕ) (e : Refusal)
+    → ComesToMerge links after out world count (Err e) → e ≡ TooManyTurns
     → MadeMostReads links after
 merge_turned links after out world count e (Ok es, merged, is) turns = absurd (cc)
 merge_turned links after out world count e (Err f, merged, is) turns = let same : f ≡ e = cc in merged_turns world count links after f merged (same ∙ turns)
@@ -67,8 +72,10 @@ has_turned old new (Show profile board files) failed t u e refused is = tt
 has_turned old new (Play profile board chance files) failed t u e refused is = tt
 
 -- a refusal, and then its line
-pub refused_run : (before after : Devices) (command : Command) (t u : HostContents) (e : Refusal) (old middle now : ℕ) (counted : Type 0) (new : Option HostContents) → old ≤ middle → middle ≤ now
-    → IsRefused (Rose old middle) (ComesTo (Rose old middle) before after command t) t e u → IsTold (Rose middle now) e u new → (e ≡ File → counted)
+pub refused_run : (before after : Devices) (command : Command) (t u : HostContents) (e : Refusal) (old middle now : ℕ) (counted : Type 0) (new : Option HostContents)
+    → old ≤ middle → middle ≤ now
+    → IsRefused (Rose old middle) (ComesTo (Rose old middle) before after command t) t e u → IsTold (Rose middle now) e u new
+    → (e ≡ File → counted)
     → (e ≡ Memory → HasLacked (Rose old middle) before after command t) → EndsRun before after (Some command) t old now counted 1 new
 refused_run before after command t u e old middle now counted new up more refused told file lacked =
     inr (
@@ -97,7 +104,8 @@ lacks_idle failed before (Show profile board files) t = refl
 lacks_idle failed before (Play profile board chance files) t = inl refl
 
 -- want of memory, whatever was asked for
-pub memory_run : (before : Devices) (command : Option Command) (t : HostContents) (old now : ℕ) (counted : Type 0) (new : Option HostContents) → old ≤ now
+pub memory_run : (before : Devices) (command : Option Command) (t : HostContents) (old now : ℕ) (counted : Type 0) (new : Option HostContents)
+    → old ≤ now
     → IsComplained (Rose old now) (line_of Memory) t new → EndsRun before before command t old now counted 1 new
 memory_run before None t old now counted new up told = (line_of Memory, inr (refl, refl), told)
 memory_run before (Some command) t old now counted new up told =
@@ -117,8 +125,11 @@ memory_run before (Some command) t old now counted new up told =
     )
 
 -- words that ask for nothing, or for which memory was lacking
-pub words_run : (before : Devices) (command : Option Command) (error : ParseError) (t : HostContents) (old now : ℕ) (counted : Type 0) (status : ℕ) (text : List ℕ) (new : Option HostContents) → old ≤ now
-    → (error ≡ parse.Memory) ⊎ ((command ≡ None) × IsRefusedAloud error) → SaysWhy error status text → IsComplained (Rose old now) text t new → EndsRun before before command t old now counted status new
+pub words_run : (before : Devices) (command : Option Command) (error : ParseError) (t : HostContents) (old now : ℕ) (counted : Type 0) (status : ℕ) (text : List ℕ) (new : Option HostContents)
+    → old ≤ now
+    → (error ≡ parse.Memory) ⊎ ((command ≡ None) × IsRefusedAloud error) → SaysWhy error status text
+    → IsComplained (Rose old now) text t new
+    → EndsRun before before command t old now counted status new
 words_run before command parse.Memory t old now counted status text new up why says told =
     let Says : List ℕ → Type 0 = λ line. IsComplained (Rose old now) line t new in
     subst (λ n. EndsRun before before command t old now counted n new) (sym says.0) (memory_run before command t old now counted new up (subst Says says.1 told))
@@ -129,10 +140,14 @@ words_run before command (parse.Refused s) t old now counted status text new up 
       subst (λ c. EndsRun before before c t old now counted status new) (sym none.0) (text, inl (says.0, some), told)
 ]
 
-told_calmly : (old now : ℕ) (text : List ℕ) (t : HostContents) (new : Option HostContents) → NothingFailed old now → IsComplained (Rose old now) text t new → new ≡ Some (with_complaint text t)
+told_calmly : (old now : ℕ) (text : List ℕ) (t : HostContents) (new : Option HostContents) → NothingFailed old now
+    → IsComplained (Rose old now) text t new
+    → new ≡ Some (with_complaint text t)
 told_calmly old now text t new calm told = elim told [ inl is ↦ is | inr failed ↦ absurd (no_rise old now now (omega arith) calm failed.0) ]
 
-refused_calmly : (before after : Devices) (command : Command) (t : HostContents) (old now : ℕ) (counted : Type 0) (new : Option HostContents) → NothingFailed old now → RefusedRun before after command t old now counted new → EndsCalmly before after command t 1 new
+refused_calmly : (before after : Devices) (command : Command) (t : HostContents) (old now : ℕ) (counted : Type 0) (new : Option HostContents)
+    → NothingFailed old now → RefusedRun before after command t old now counted new
+    → EndsCalmly before after command t 1 new
 refused_calmly before after command t old now counted new calm run =
     let first = run.rises.0 in
     let second = run.rises.1 in
@@ -152,7 +167,8 @@ refused_calmly before after command t old now counted new calm run =
           ])
     ]
 
-pub run_calmly : (before after : Devices) (command : Command) (t : HostContents) (old now : ℕ) (counted : Type 0) (status : ℕ) (new : Option HostContents) → NothingFailed old now
+pub run_calmly : (before after : Devices) (command : Command) (t : HostContents) (old now : ℕ) (counted : Type 0) (status : ℕ) (new : Option HostContents)
+    → NothingFailed old now
     → EndsRun before after (Some command) t old now counted status new → EndsCalmly before after command t status new
 run_calmly before after command t old now counted status new calm run =
     elim run [
@@ -170,29 +186,38 @@ run_calmly before after command t old now counted status new calm run =
 -- ---- what is passed on to a command
 
 -- so many links
-pub merge_as : (failed : Type 0) (links after : List LinkSeen) (out : List ℕ) (world count many : ℕ) (t : HostContents) (result : Result ⊤ Refusal) (new : Option HostContents) → count ≡ many
-    → Ends failed (ComesToMerge links after out world count) t result new → Ends failed (ComesToMerge links after out world many) t result new
-merge_as failed links after out world count many t result new same ends = subst (λ n. Ends failed (ComesToMerge links after out world n) t result new) same ends
+pub merge_as : (failed : Type 0) (links after : List LinkSeen) (out : List ℕ) (world count many : ℕ) (t : HostContents) (result : Result ⊤ Refusal) (new : Option HostContents)
+    → count ≡ many
+    → Ends failed (ComesToMerge links after out world count) t result new
+    → Ends failed (ComesToMerge links after out world many) t result new
+merge_as failed links after out world count many t result new same ends =
+    subst (λ n. Ends failed (ComesToMerge links after out world n) t result new) same ends
 
 pub pulls_as : (world count many : ℕ) (links after : List LinkSeen) → count ≡ many
-    → (r : Result (List Edit) Refusal) × IsMerged world count links after r → (r : Result (List Edit) Refusal) × IsMerged world many links after r
+    → (r : Result (List Edit) Refusal) × IsMerged world count links after r
+    → (r : Result (List Edit) Refusal) × IsMerged world many links after r
 pulls_as world count many links after same pulls = subst (λ n. (r : Result (List Edit) Refusal) × IsMerged world n links after r) same pulls
 
 -- this limit, and these files
-pub show_as : (failed : Type 0) (old after : Stage) (given limit board : ℕ) (names files : List (List ℕ)) (t : HostContents) (result : Result ⊤ Refusal) (new : Option HostContents) → given ≡ limit → names ≡ files
-    → Ends failed (ComesToShow failed old after t given board names) t result new → Ends failed (ComesToShow failed old after t limit board files) t result new
+pub show_as : (failed : Type 0) (old after : Stage) (given limit board : ℕ) (names files : List (List ℕ)) (t : HostContents) (result : Result ⊤ Refusal) (new : Option HostContents)
+    → given ≡ limit → names ≡ files
+    → Ends failed (ComesToShow failed old after t given board names) t result new
+    → Ends failed (ComesToShow failed old after t limit board files) t result new
 show_as failed old after given limit board names files t result new is same ends =
     subst (λ n. Ends failed (ComesToShow failed old after t n board files) t result new) is
     (subst (λ ns. Ends failed (ComesToShow failed old after t given board ns) t result new) same ends)
 
-pub play_as : (failed : Type 0) (old after : Stage) (given limit board : ℕ) (chance : List ℕ) (names files : List (List ℕ)) (t : HostContents) (result : Result ⊤ Refusal) (new : Option HostContents) → given ≡ limit → names ≡ files
-    → EndsPlaying failed old after t given board chance names result new → EndsPlaying failed old after t limit board chance files result new
+pub play_as : (failed : Type 0) (old after : Stage) (given limit board : ℕ) (chance : List ℕ) (names files : List (List ℕ)) (t : HostContents) (result : Result ⊤ Refusal) (new : Option HostContents)
+    → given ≡ limit → names ≡ files
+    → EndsPlaying failed old after t given board chance names result new
+    → EndsPlaying failed old after t limit board chance files result new
 play_as failed old after given limit board chance names files t result new is same ends =
     subst (λ n. EndsPlaying failed old after t n board chance files result new) is
     (subst (λ ns. EndsPlaying failed old after t given board chance ns result new) same ends)
 
 -- memory was lacking for a board that was to be shown
-pub show_lacks : {S : Type 0} (look : S → Stage) (result : Result ⊤ Refusal) (old new : S) (before after : Option (List Bool)) → CallsOnce result before after (new ≡ old)
+pub show_lacks : {S : Type 0} (look : S → Stage) (result : Result ⊤ Refusal) (old new : S) (before after : Option (List Bool))
+    → CallsOnce result before after (new ≡ old)
     → result ≡ Err Memory → look new ≡ look old
 show_lacks look (Ok u) old new before after once is = absurd (cc)
 show_lacks look (Err e) old new before after why is = elim why [ inl fault ↦ absurd (let no = fault.0 in cc) | inr stays ↦ ap look stays ]

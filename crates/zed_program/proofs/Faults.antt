@@ -12,12 +12,14 @@ use Rattle.zed_program.specs.Asked.{ComplainsOf}
 use Rattle.zed_program.specs.Faults.{TellsFault}
 
 -- memory was lacking for the words
-pub memory_told : {H : Type 0} (called : H → Call → H → Type 0) (is_fault : Refusal → Bool) (old new : H) (count : ℕ) → is_fault Memory ≡ false
+pub memory_told : {H : Type 0} (called : H → Call → H → Type 0) (is_fault : Refusal → Bool) (old new : H) (count : ℕ)
+    → is_fault Memory ≡ false
     → ComplainsOf called (line_of Memory) old new → TellsFault called is_fault 1 new count count
 memory_told called is_fault old new count off is = inr (refl, (Memory, old, is, uncounted (is_fault Memory) count count off refl))
 
 -- the words asked for nothing, or memory was lacking for them
-pub words_told : {H : Type 0} (called : H → Call → H → Type 0) (is_fault : Refusal → Bool) (error : ParseError) (status : ℕ) (text : List ℕ) (old new : H) (count : ℕ) → is_fault Memory ≡ false
+pub words_told : {H : Type 0} (called : H → Call → H → Type 0) (is_fault : Refusal → Bool) (error : ParseError) (status : ℕ) (text : List ℕ) (old new : H) (count : ℕ)
+    → is_fault Memory ≡ false
     → SaysWhy error status text → ComplainsOf called text old new → TellsFault called is_fault status new count count
 words_told called is_fault parse.Memory status text old new count off says is =
     subst (λ n. TellsFault called is_fault n new count count) (sym says.0) (memory_told called is_fault old new count off (subst (λ line. ComplainsOf called line old new) says.1 is))

@@ -49,7 +49,8 @@ WrittenIsRead =
     (n : ℕ) (es found : List Edit) (bytes : List ℕ) (p : Progress) → n < 2 ^ 64 → AreRecords es → IsTextOf n es bytes → is_other p.asked n ≡ false → Reads bytes found p → p.fault ≢ Some file.Memory
     → (found ≡ es) × (ending p ≡ None) × (p.world ≡ Some n)
 
-file_is : WrittenIsRead → (asked : Option ℕ) (n : ℕ) (es found : List Edit) (bytes : List ℕ) (end : Result ℕ EditFileError) → n < 2 ^ 64 → AreRecords es → IsTextOf n es bytes → is_other asked n ≡ false
+file_is : WrittenIsRead → (asked : Option ℕ) (n : ℕ) (es found : List Edit) (bytes : List ℕ) (end : Result ℕ EditFileError) → n < 2 ^ 64
+    → AreRecords es → IsTextOf n es bytes → is_other asked n ≡ false
     → IsFile asked bytes found end → (found ≡ es) × (end ≡ Ok n)
 file_is law asked n es found bytes end small good text own file =
     let read = law n es found bytes file.progress small good text (ap (λ a. is_other a n) file.asks ∙ own) file.reads file.sound in
@@ -71,7 +72,9 @@ same_world n = go (n == n) refl
     go false t = let bad = ne_eqb n n in absurd (grind arith)
 
 -- one file, and then the others
-first_is : WrittenIsRead → (asked : Option ℕ) (n : ℕ) (es : List Edit) (bytes : List ℕ) (lists : List (List Edit)) (files : List (Option (List ℕ))) (s : Stream) → n < 2 ^ 64 → AreRecords es → IsTextOf n es bytes → is_other asked n ≡ false
+first_is : WrittenIsRead
+    → (asked : Option ℕ) (n : ℕ) (es : List Edit) (bytes : List ℕ) (lists : List (List Edit)) (files : List (Option (List ℕ))) (s : Stream)
+    → n < 2 ^ 64 → AreRecords es → IsTextOf n es bytes → is_other asked n ≡ false
     → ((rest : Stream) → IsStream (Some n) files rest → rest ≡ edits_then (joined lists) None)
     → IsStream asked (Some bytes ∷ files) s → s ≡ edits_then (joined (es ∷ lists)) None
 first_is law asked n es bytes lists files s small good text own others reads =
@@ -84,7 +87,8 @@ first_is law asked n es bytes lists files s small good text own others reads =
           more.5 ∙ ap₂ stream_after is.0 rest)
     ]
 
-others_are : WrittenIsRead → (n : ℕ) (lists : List (List Edit)) (files : List (Option (List ℕ))) (s : Stream) → n < 2 ^ 64 → AreRecords (joined lists) → AreTextsOf n lists files
+others_are : WrittenIsRead → (n : ℕ) (lists : List (List Edit)) (files : List (Option (List ℕ))) (s : Stream) → n < 2 ^ 64
+    → AreRecords (joined lists) → AreTextsOf n lists files
     → IsStream (Some n) files s → s ≡ edits_then (joined lists) None
 others_are law n [] [] s small good texts reads = reads
 others_are law n [] (f ∷ files) s small good texts reads = absurd texts
@@ -95,7 +99,8 @@ others_are law n (es ∷ lists) (Some bytes ∷ files) s small good texts reads 
     (λ rest is. others_are law n lists files rest small (records_right es (joined lists) good) texts.1 is) reads
 
 -- the files of one list of edits or more come to all their edits
-pub texts_are : WrittenIsRead → (n : ℕ) (es : List Edit) (lists : List (List Edit)) (files : List (Option (List ℕ))) (s : Stream) → n < 2 ^ 64 → AreRecords (joined (es ∷ lists)) → AreTextsOf n (es ∷ lists) files
+pub texts_are : WrittenIsRead → (n : ℕ) (es : List Edit) (lists : List (List Edit)) (files : List (Option (List ℕ))) (s : Stream)
+    → n < 2 ^ 64 → AreRecords (joined (es ∷ lists)) → AreTextsOf n (es ∷ lists) files
     → IsStream None files s → s ≡ edits_then (joined (es ∷ lists)) None
 texts_are law n es lists [] s small good texts reads = absurd texts
 texts_are law n es lists (None ∷ files) s small good texts reads = absurd texts.0
@@ -111,13 +116,15 @@ no_files n (f ∷ files) texts = absurd texts
 pub no_clash : (es : List Edit) (c : Stamp) → Agrees es → IsFirstClash es c → ⊥
 no_clash es c agrees clash =
     let other = clash.clashes in
-    let left : Contains es other.0 = subst (λ l. Contains l other.0) (sym clash.whole) (Contains-append_left clash.before (clash.edit ∷ clash.after) other.0 other.1) in
+    let left : Contains es other.0 =
+    subst (λ l. Contains l other.0) (sym clash.whole) (Contains-append_left clash.before (clash.edit ∷ clash.after) other.0 other.1) in
     let here : Contains (clash.edit ∷ clash.after) clash.edit = (0, omega arith, refl) in
     let right : Contains es clash.edit = subst (λ l. Contains l clash.edit) (sym clash.whole) (Contains-append_right clash.before (clash.edit ∷ clash.after) clash.edit here) in
     other.3 (agrees other.0 clash.edit left right other.2)
 
 -- and so to their set, where they agree
-pub set_is : (s : Stream) (all : List Edit) (set : Result (List Edit) Refusal) → s ≡ edits_then all None → Agrees all → IsCollected s set → set ≡ Ok (set_of all)
+pub set_is : (s : Stream) (all : List Edit) (set : Result (List Edit) Refusal) → s ≡ edits_then all None → Agrees all → IsCollected s set
+    → set ≡ Ok (set_of all)
 set_is s all set is agrees collected =
     elim (subst (λ x. IsCollected x set) is collected) [
       | inl clash ↦ absurd (no_clash all clash.0 agrees clash.1)
@@ -136,7 +143,8 @@ none_made : (limit : ℕ) → file_of limit (set_of []) ≡ Err NoWorld
 none_made limit = refl
 
 -- so the world file of their set is what `save` writes, or its first limit is told
-saved_set : (old new : Devices) → WrittenIsRead → (t : HostContents) (profile : Profile) (out : List ℕ) (names : List (List ℕ)) (n : ℕ) (lists : List (List Edit)) (r : Result Effect Refusal)
+saved_set : (old new : Devices) → WrittenIsRead
+    → (t : HostContents) (profile : Profile) (out : List ℕ) (names : List (List ℕ)) (n : ℕ) (lists : List (List Edit)) (r : Result Effect Refusal)
     → AreTextsOf n lists (map (file_in t) names) → n < 2 ^ 64 → AreRecords (joined lists) → Agrees (joined lists)
     → ComesTo ⊥ old new (Save profile out names) t r → r ≡ writes_world out (file_of (limit_of profile) (set_of (joined lists)))
 saved_set old new law t profile out names n [] r texts small good agrees comes =
@@ -156,8 +164,10 @@ saved_set old new law t profile out names n (es ∷ lists) r texts small good ag
     comes.2 ∙ ap (writes_world out) (made.2 ∙ ap (made_of (file_of (limit_of profile))) set)
 
 -- and `run` ends so
-pub run_of_texts : (before after : Devices) → WrittenIsRead → (words : List (List ℕ)) (t : HostContents) (profile : Profile) (out : List ℕ) (n : ℕ) (lists : List (List Edit)) (status : ℕ) (new : Option HostContents)
-    → (asks : AsksToSave words t profile out n lists) → EndsCalmly before after (Save profile out asks.files) t status new → SavesSet profile out t (joined lists) status new
+pub run_of_texts : (before after : Devices) → WrittenIsRead
+    → (words : List (List ℕ)) (t : HostContents) (profile : Profile) (out : List ℕ) (n : ℕ) (lists : List (List Edit)) (status : ℕ) (new : Option HostContents)
+    → (asks : AsksToSave words t profile out n lists) → EndsCalmly before after (Save profile out asks.files) t status new
+    → SavesSet profile out t (joined lists) status new
 run_of_texts before after law words t profile out n lists status new asks ended =
     elim ended [
       | inl done ↦ (
@@ -186,8 +196,10 @@ saved_at limit es bytes is = go (refusal_of limit (replay es)) is
     go (Some refusal) e = absurd (cc)
 
 -- where `run` ends well, the file is read as the exported world
-pub reads_back : AuthoredIsRead → (words : List (List ℕ)) (t : HostContents) (profile : Profile) (out : List ℕ) (n : ℕ) (lists : List (List Edit)) (status : ℕ) (new : Option HostContents)
-    → AsksToSave words t profile out n lists → SavesSet profile out t (joined lists) status new → SavedReadsBack out t (joined lists) status new
+pub reads_back : AuthoredIsRead
+    → (words : List (List ℕ)) (t : HostContents) (profile : Profile) (out : List ℕ) (n : ℕ) (lists : List (List Edit)) (status : ℕ) (new : Option HostContents)
+    → AsksToSave words t profile out n lists → SavesSet profile out t (joined lists) status new
+    → SavedReadsBack out t (joined lists) status new
 reads_back law words t profile out n lists status new asks saves well =
     elim saves [
       | inl done ↦ go (file_of (limit_of profile) (set_of es)) refl done
@@ -201,8 +213,11 @@ reads_back law words t profile out n lists status new asks saves well =
     authored = record { fit = records_fit es asks.records; sizes = records_have_sizes es asks.records; agree = asks.agree }
 
     go : (f : Result (List ℕ) Refusal) → file_of (limit_of profile) (set_of es) ≡ f → HasStatus (writes_world out f) t status new
-        → (bytes : List ℕ) × (new ≡ Some (written_to out bytes (bytes_line (length bytes)) t)) × (world_at bytes ≡ Ok (world_of (replay (set_of es))))
-    go (Ok bytes) is done = (bytes, done.1, law (limit_of profile) es bytes authored (low profile) (saved_at (limit_of profile) (set_of es) bytes is))
+        → (bytes : List ℕ)
+        × (new ≡ Some (written_to out bytes (bytes_line (length bytes)) t))
+        × (world_at bytes ≡ Ok (world_of (replay (set_of es))))
+    go (Ok bytes) is done =
+        (bytes, done.1, law (limit_of profile) es bytes authored (low profile) (saved_at (limit_of profile) (set_of es) bytes is))
     go (Err e) is done = absurd (let bad = done.0 in omega (arith, bad, well))
 
 -- by the laws of edit files: bytes are read in one way, and the text of edits as those edits

@@ -46,7 +46,9 @@ abbrev stopped : DocumentError → Result (Unit {0}) DocumentError
 stopped e = Err e
 
 -- the edits of a document without any, after all of these, are their set
-set_left : DeliveriesComeToSets → (d : Replica) (es left : List Edit) → d.is_stale ≡ false → d.edits ≡ [] → AllFit es → AllDelivered d es left → left ≡ set_of es
+set_left : DeliveriesComeToSets → (d : Replica) (es left : List Edit) → d.is_stale ≡ false → d.edits ≡ [] → AllFit es
+    → AllDelivered d es left
+    → left ≡ set_of es
 set_left law d es left sound empty fit all =
     elim (law d es (Ok tt) left sound empty fit all) [
       | inl set ↦ set.2
@@ -54,7 +56,8 @@ set_left law d es left sound empty fit all =
     ]
 
 -- edits that agree don't clash
-never_clash : DeliveriesComeToSets → (d : Replica) (es left : List Edit) (s : Stamp) → d.is_stale ≡ false → d.edits ≡ [] → AllFit es → Agrees es
+never_clash : DeliveriesComeToSets → (d : Replica) (es left : List Edit) (s : Stamp) → d.is_stale ≡ false → d.edits ≡ [] → AllFit es
+    → Agrees es
     → DeliversEach d es (Err (document.Clash s)) left → ⊥
 never_clash law d es left s sound empty fit agrees each =
     elim (law d es (Err (document.Clash s)) left sound empty fit each) [
@@ -98,9 +101,12 @@ one_before l links before es lists r (inl all) = inl (all ∙ ap (λ (fs : List 
 one_before l links before es lists r (inr why) = inr (why.0, of_more l links why.0 why.1, why.2)
 
 -- after these edits were delivered, the links hold the files of those lists
-pulls_are : FilesArePulled → DeliveriesGoOn → DeliveriesComeToSets → (d : Replica) (n : ℕ) (links news : List LinkSeen) (lists : List (List Edit)) (before left : List Edit) (r : Result (List Edit) Refusal)
-    → d.world < 2 ^ 64 → d.is_stale ≡ false → d.edits ≡ [] → AllDelivered d before left → AreTextsOf d.world lists (map left_on (take n links))
-    → AreRecords (before ++ joined lists) → Agrees (before ++ joined lists) → PullsEach (with_edits left d) n links news r → JoinedOr (take n links) before lists r
+pulls_are : FilesArePulled → DeliveriesGoOn → DeliveriesComeToSets
+    → (d : Replica) (n : ℕ) (links news : List LinkSeen) (lists : List (List Edit)) (before left : List Edit) (r : Result (List Edit) Refusal)
+    → d.world < 2 ^ 64 → d.is_stale ≡ false → d.edits ≡ [] → AllDelivered d before left
+    → AreTextsOf d.world lists (map left_on (take n links))
+    → AreRecords (before ++ joined lists) → Agrees (before ++ joined lists) → PullsEach (with_edits left d) n links news r
+    → JoinedOr (take n links) before lists r
 pulls_are files more sets d zero links news [] before left r small sound empty all held good agrees pulls =
     let fit = records_fit before (records_left before [] good) in
     inl (pulls.0 ∙ ap (λ x. Ok x) (set_left sets d before left sound empty fit all ∙ ap set_of (sym (append-nil before))))
@@ -123,14 +129,17 @@ pulls_are files more sets d (suc n) (l ∷ links) news (es ∷ lists) before lef
           let pulled = (files (with_edits left d) es l.ends err.1.ends l.reads err.1.reads (Err err.0) err.2 holding err.4).0 in
           let fit = records_fit (before ++ es) (records_left (before ++ es) (joined lists) good_all) in
           let agree = agree_left (before ++ es) (joined lists) agrees_all in
-          let never : (s : Stamp) → DeliversEach (with_edits left d) es (Err (document.Clash s)) err.2 → ⊥ = λ s clash. never_clash sets d (before ++ es) err.2 s sound empty fit agree
+          let never : (s : Stamp) → DeliversEach (with_edits left d) es (Err (document.Clash s)) err.2 → ⊥ =
+          λ s clash. never_clash sets d (before ++ es) err.2 s sound empty fit agree
           (more d before es left err.2 (Err (document.Clash s)) all clash) in
           inr (link_refusal err.0, refused_so (with_edits left d) l (take n links) es err.2 holding err.0 never pulled, err.5))
     ]
 
 -- the edits of links that hold files of a world
-merged_are : FilesArePulled → DeliveriesGoOn → DeliveriesComeToSets → (world count : ℕ) (links news : List LinkSeen) (lists : List (List Edit)) (r : Result (List Edit) Refusal)
-    → world < 2 ^ 64 → count ≤ length links → AreTextsOf world lists (map left_on (take count links)) → AreRecords (joined lists) → Agrees (joined lists)
+merged_are : FilesArePulled → DeliveriesGoOn → DeliveriesComeToSets
+    → (world count : ℕ) (links news : List LinkSeen) (lists : List (List Edit)) (r : Result (List Edit) Refusal)
+    → world < 2 ^ 64 → count ≤ length links → AreTextsOf world lists (map left_on (take count links)) → AreRecords (joined lists)
+    → Agrees (joined lists)
     → IsMerged world count links news r → JoinedOr (take count links) [] lists r
 merged_are files more sets world count links news lists r small enough held good agrees merged =
     let there : MatchBool false ((r ≡ Err NoLink) × (news ≡ links)) (PullsEach (empty_document world) count links news r) =
@@ -138,19 +147,22 @@ merged_are files more sets world count links news lists r small enough held good
     pulls_are files more sets (empty_document world) count links news lists [] [] r small refl refl (refl, refl) held good agrees there
 
 -- there is a list for each link that is pulled over
-as_many_texts : (world : ℕ) (lists : List (List Edit)) (files : List (Option (List ℕ))) → AreTextsOf world lists files → length lists ≡ length files
+as_many_texts : (world : ℕ) (lists : List (List Edit)) (files : List (Option (List ℕ))) → AreTextsOf world lists files
+    → length lists ≡ length files
 as_many_texts world [] [] texts = refl
 as_many_texts world [] (f ∷ files) texts = absurd texts
 as_many_texts world (es ∷ lists) [] texts = absurd texts
 as_many_texts world (es ∷ lists) (f ∷ files) texts = ap (λ (n : ℕ). suc n) (as_many_texts world lists files texts.1)
 
-as_many_lists : (count world : ℕ) (links : List LinkSeen) (lists : List (List Edit)) → count ≤ length links → AreTextsOf world lists (map left_on (take count links))
+as_many_lists : (count world : ℕ) (links : List LinkSeen) (lists : List (List Edit)) → count ≤ length links
+    → AreTextsOf world lists (map left_on (take count links))
     → length lists ≡ count
 as_many_lists count world links lists enough held =
     as_many_texts world lists (map left_on (take count links)) held ∙ length-map (take count links) left_on ∙ length-take-le count links enough
 
 has_status : (out : List ℕ) (world count : ℕ) (links : List LinkSeen) (lists : List (List Edit)) (m : Result (List Edit) Refusal) (r : Result Effect Refusal) (t : HostContents) (status : ℕ) (new : Option HostContents)
-    → length lists ≡ count → JoinedOr (take count links) [] lists m → r ≡ writes_joined out world m → HasStatus r t status new → MergesSet out t world links lists status new
+    → length lists ≡ count → JoinedOr (take count links) [] lists m → r ≡ writes_joined out world m → HasStatus r t status new
+    → MergesSet out t world links lists status new
 has_status out world count links lists m r t status new many is made has =
     elim is [
       | inl all ↦ inl (subst (λ x. HasStatus x t status new) (made ∙ ap (writes_joined out world) all) has)
@@ -158,8 +170,10 @@ has_status out world count links lists m r t status new many is made has =
     ]
 
 -- `run` ends so
-pub run_of_links : FilesArePulled → DeliveriesGoOn → DeliveriesComeToSets → (words : List (List ℕ)) (before after : Devices) (t : HostContents) (out : List ℕ) (world : ℕ) (lists : List (List Edit)) (status : ℕ) (new : Option HostContents)
-    → (asks : AsksToMerge words before.links out world lists) → EndsCalmly before after (Merge out world asks.files) t status new → MergesSet out t world before.links lists status new
+pub run_of_links : FilesArePulled → DeliveriesGoOn → DeliveriesComeToSets
+    → (words : List (List ℕ)) (before after : Devices) (t : HostContents) (out : List ℕ) (world : ℕ) (lists : List (List Edit)) (status : ℕ) (new : Option HostContents)
+    → (asks : AsksToMerge words before.links out world lists) → EndsCalmly before after (Merge out world asks.files) t status new
+    → MergesSet out t world before.links lists status new
 run_of_links files more sets words before after t out world lists status new asks ended =
     elim ended [
       | inl done ↦ (

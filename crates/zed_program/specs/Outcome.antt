@@ -25,7 +25,8 @@ ComesTo failed old new (New out world from name) t r = ComesToNew failed t out w
 ComesTo failed old new (EditFile file replica words) t r = ComesToEdit failed t file replica words r
 ComesTo failed old new (Merge out world files) t r = ComesToMerge old.links new.links out world (length files) r
 ComesTo failed old new (Show profile board files) t r = ComesToShow failed old.stage new.stage t (limit_of profile) board files r
-ComesTo failed old new (Play profile board chance files) t r = ComesToPlay failed old.stage new.stage t (limit_of profile) board chance files r
+ComesTo failed old new (Play profile board chance files) t r =
+    ComesToPlay failed old.stage new.stage t (limit_of profile) board chance files r
 
 -- a text is on the standard error, or the host failed at it
 abbrev pub IsComplained : Type 0 → List ℕ → HostContents → Option HostContents → Type 0
@@ -53,7 +54,8 @@ HasTurned old new command = Unit {0}
 -- what is so where a command lacks memory: a board wasn't shown, and of `play` the stage is as it was, or a playtest came to that
 abbrev pub HasLacked : Type 0 → Devices → Devices → Command → HostContents → Type 0
 HasLacked failed old new (Show profile board files) t = new.stage ≡ old.stage
-HasLacked failed old new (Play profile board chance files) t = LacksForPlay failed old.stage new.stage t (limit_of profile) board chance files
+HasLacked failed old new (Play profile board chance files) t =
+    LacksForPlay failed old.stage new.stage t (limit_of profile) board chance files
 HasLacked failed old new command t = Unit {0}
 
 -- so a command ends, with this in its host, and its devices so

@@ -61,10 +61,12 @@ fine_last : (b : ℕ) → b < 256 → (not (text_point b == 65279) && is_just (b
 fine_last b lt = and_second (not (text_point b == 13)) (not (text_point b == 65279) && is_just (byte_of (text_point b)) b) (fine_rest b lt)
 
 fine_mark : (b : ℕ) → b < 256 → (text_point b == 65279) ≡ false
-fine_mark b lt = not_so (text_point b == 65279) (and_first (not (text_point b == 65279)) (is_just (byte_of (text_point b)) b) (fine_last b lt))
+fine_mark b lt =
+    not_so (text_point b == 65279) (and_first (not (text_point b == 65279)) (is_just (byte_of (text_point b)) b) (fine_last b lt))
 
 fine_byte : (b : ℕ) → b < 256 → byte_of (text_point b) ≡ Some b
-fine_byte b lt = just_is (byte_of (text_point b)) b (and_second (not (text_point b == 65279)) (is_just (byte_of (text_point b)) b) (fine_last b lt))
+fine_byte b lt =
+    just_is (byte_of (text_point b)) b (and_second (not (text_point b == 65279)) (is_just (byte_of (text_point b)) b) (fine_last b lt))
 
 -- ---- all bytes of a program
 
@@ -88,7 +90,8 @@ unmarked_same (b ∷ p) h = rw (fine_mark b h.0) refl
 
 fed_same : (before : ℕ) (p : List ℕ) → (before == 13) ≡ false → AreBytes p → fed_behind before (map text_point p) ≡ map text_point p
 fed_same before [] other h = refl
-fed_same before (b ∷ p) other h = rw (other, fine_return b h.0) (ap (λ cs. text_point b ∷ cs) (fed_same (text_point b) p (fine_return b h.0) h.1))
+fed_same before (b ∷ p) other h =
+    rw (other, fine_return b h.0) (ap (λ cs. text_point b ∷ cs) (fed_same (text_point b) p (fine_return b h.0) h.1))
 
 pub all_known : (p : List ℕ) → AreBytes p → list_all is_known (map text_point p) ≡ true
 all_known [] h = refl

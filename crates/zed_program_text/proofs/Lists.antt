@@ -21,7 +21,8 @@ and_second true q h = h
 and_second false q h = absurd (cc)
 
 -- those that pass in front of the first that doesn't
-prefix_is : (p : ℕ → Bool) (cs : List ℕ) (i d : ℕ) → i < length cs → list_all p (take i cs) ≡ true → p (get_or cs i d) ≡ false → prefix_len p cs ≡ i
+prefix_is : (p : ℕ → Bool) (cs : List ℕ) (i d : ℕ) → i < length cs → list_all p (take i cs) ≡ true → p (get_or cs i d) ≡ false
+    → prefix_len p cs ≡ i
 prefix_is p [] i d lt all fails = absurd (omega (arith, lt))
 prefix_is p (c ∷ cs) zero d lt all fails = rw fails refl
 prefix_is p (c ∷ cs) (suc i) d lt all fails =
@@ -30,23 +31,27 @@ prefix_is p (c ∷ cs) (suc i) d lt all fails =
     rw here (omega (arith, more))
 
 -- the first character that fails program has
-pub spelled_not : (cs : List ℕ) (i d : ℕ) → i < length cs → list_all is_known (take i cs) ≡ true → is_known (get_or cs i d) ≡ false → spelled cs ≡ Err (place_behind (take i cs))
+pub spelled_not : (cs : List ℕ) (i d : ℕ) → i < length cs → list_all is_known (take i cs) ≡ true → is_known (get_or cs i d) ≡ false
+    → spelled cs ≡ Err (place_behind (take i cs))
 unfolding spelled
 spelled_not cs i d lt all fails =
     let stops = prefix_is is_known cs i d lt all fails in
     rw (list_all_at is_known cs i d lt fails, stops) refl
 
 -- the byte of one character more
-pub one_more : (cs : List ℕ) (i d b : ℕ) → i < length cs → byte_of (get_or cs i d) ≡ Some b → filter_map byte_of (take (i + 1) cs) ≡ filter_map byte_of (take i cs) ++ b ∷ []
+pub one_more : (cs : List ℕ) (i d b : ℕ) → i < length cs → byte_of (get_or cs i d) ≡ Some b
+    → filter_map byte_of (take (i + 1) cs) ≡ filter_map byte_of (take i cs) ++ b ∷ []
 one_more cs i d b lt is =
     ap (λ xs. filter_map byte_of xs) (take_more cs i d lt) ∙ filter_map-append byte_of (take i cs) (get_or cs i d ∷ [])
     ∙ rw is refl
 
-pub all_more : (cs : List ℕ) (i d b : ℕ) → i < length cs → byte_of (get_or cs i d) ≡ Some b → list_all is_known (take i cs) ≡ true → list_all is_known (take (i + 1) cs) ≡ true
+pub all_more : (cs : List ℕ) (i d b : ℕ) → i < length cs → byte_of (get_or cs i d) ≡ Some b → list_all is_known (take i cs) ≡ true
+    → list_all is_known (take (i + 1) cs) ≡ true
 all_more cs i d b lt is all = list_all_more is_known cs i d lt ∙ rw (all, is) refl
 
 -- one character more behind the last end of a line
-pub longer : (cs : List ℕ) (i d : ℕ) → i < length cs → (get_or cs i d == 10) ≡ false → suffix_len (λ c. not (c == 10)) (take (i + 1) cs) ≡ 1 + suffix_len (λ c. not (c == 10)) (take i cs)
+pub longer : (cs : List ℕ) (i d : ℕ) → i < length cs → (get_or cs i d == 10) ≡ false
+    → suffix_len (λ c. not (c == 10)) (take (i + 1) cs) ≡ 1 + suffix_len (λ c. not (c == 10)) (take i cs)
 longer cs i d lt is =
     let e : (i + 1) - 1 ≡ i = omega arith in
     let at : not (get_or cs ((i + 1) - 1) d == 10) ≡ true = rw (e, is) refl in
@@ -93,7 +98,8 @@ exhausted c n le =
 
 -- ---- a character that no program has
 
-pub spelled_bad : (cs : List ℕ) (i c : ℕ) (front : List ℕ) (place : BadText) → i < length cs → c ≡ get_or cs i c → byte_of c ≡ None → list_all is_known (take i cs) ≡ true
+pub spelled_bad : (cs : List ℕ) (i c : ℕ) (front : List ℕ) (place : BadText) → i < length cs → c ≡ get_or cs i c → byte_of c ≡ None
+    → list_all is_known (take i cs) ≡ true
     → front ≡ take i cs → place ≡ place_behind front → spelled cs ≡ Err place
 spelled_bad cs i c front place lt at none all is here =
     let fails : is_known (get_or cs i c) ≡ false = ap is_known (sym at) ∙ ap is_some none in

@@ -46,12 +46,15 @@ nothing es = told_none es []
 -- ---- what is printed
 
 -- of a world over no limit
-printed_within : (o : Option ExportError) (told : Result (List ℕ) Refusal) (text : List ℕ) → telling.unless_over o told ≡ Ok text → (o ≡ None) × (told ≡ Ok text)
+printed_within : (o : Option ExportError) (told : Result (List ℕ) Refusal) (text : List ℕ) → telling.unless_over o told ≡ Ok text
+    → (o ≡ None) × (told ≡ Ok text)
 printed_within None told text is = (refl, is)
 printed_within (Some e) told text is = absurd (cc)
 
-printed_text : (es : List Edit) (board stat : ℕ) (b : BoardData) (s : StatData) (text : List ℕ) → slice_get (world_of (replay es)).boards board ≡ Some b
-    → slice_get b.stats stat ≡ Some s → printed board stat es ≡ Ok text → (refusal_of 32767 (replay es) ≡ None) × (text ≡ text_of (program_of b.stats s.code))
+printed_text : (es : List Edit) (board stat : ℕ) (b : BoardData) (s : StatData) (text : List ℕ)
+    → slice_get (world_of (replay es)).boards board ≡ Some b
+    → slice_get b.stats stat ≡ Some s → printed board stat es ≡ Ok text
+    → (refusal_of 32767 (replay es) ≡ None) × (text ≡ text_of (program_of b.stats s.code))
 printed_text es board stat b s text at here is =
     let both = printed_within (refusal_of 32767 (replay es)) (text_on (slice_get (world_of (replay es)).boards board) stat) text is in
     let on_board : text_on (Some b) stat ≡ Ok text = subst (λ o. text_on o stat ≡ Ok text) at both.1 in
@@ -61,7 +64,8 @@ printed_text es board stat b s text at here is =
 
 has_text : (p : Plain) → refusal_of 32767 p ≡ None → HasText 32767 (world_of p)
 has_text p is =
-    let behind = neither (title_refusal p) (or_else (count_refusal (length (alive_boards p))) (boards_refusal 32767 0 (exported_boards p))) is in
+    let behind =
+    neither (title_refusal p) (or_else (count_refusal (length (alive_boards p))) (boards_refusal 32767 0 (exported_boards p))) is in
     let boards = neither (count_refusal (length (alive_boards p))) (boards_refusal 32767 0 (exported_boards p)) behind.1 in
     none_over 32767 0 (exported_boards p) boards.1
 
@@ -73,19 +77,24 @@ shown_world es w within is =
     let told : Ok w ≡ export_told (Ok (world_of (replay es))) = is ∙ ap export_told whole in
     cc
 
-reprogrammed_world : (w v : Contents) (board stat : ℕ) (program : List ℕ) → ((r : Result Contents ReprogramError) → IsReprogrammed w board stat program r → r ≡ Ok w)
+reprogrammed_world : (w v : Contents) (board stat : ℕ) (program : List ℕ)
+    → ((r : Result Contents ReprogramError) → IsReprogrammed w board stat program r → r ≡ Ok w)
     → Reprograms w board stat program (Ok v) → v ≡ w
 reprogrammed_world w v board stat program stays is =
     let told : Ok v ≡ reprogram_told (Ok w) = is.2 ∙ ap reprogram_told (stays is.0 is.1) in
     cc
 
-changed_world : OwnProgramStays → (es : List Edit) (board stat : ℕ) (b : BoardData) (s : StatData) (w : Contents) → HasNormalParts (world_of (replay es)) → refusal_of 32767 (replay es) ≡ None
-    → slice_get (world_of (replay es)).boards board ≡ Some b → slice_get b.stats stat ≡ Some s → IsChanged es board stat (program_of b.stats s.code) (Ok w) → w ≡ world_of (replay es)
+changed_world : OwnProgramStays → (es : List Edit) (board stat : ℕ) (b : BoardData) (s : StatData) (w : Contents)
+    → HasNormalParts (world_of (replay es)) → refusal_of 32767 (replay es) ≡ None
+    → slice_get (world_of (replay es)).boards board ≡ Some b → slice_get b.stats stat ≡ Some s
+    → IsChanged es board stat (program_of b.stats s.code) (Ok w)
+    → w ≡ world_of (replay es)
 changed_world stays es board stat b s w normal within at here is =
     let program = program_of b.stats s.code in
     let was = step_was (IsShown es) (λ v. Reprograms v board stat program) w is in
     let shown = shown_world es was.0 within was.1 in
-    let gives : Reprograms (world_of (replay es)) board stat program (Ok w) = subst (λ v. Reprograms v board stat program (Ok w)) shown was.2 in
+    let gives : Reprograms (world_of (replay es)) board stat program (Ok w) =
+    subst (λ v. Reprograms v board stat program (Ok w)) shown was.2 in
     reprogrammed_world (world_of (replay es)) w board stat program (λ r a. stays (world_of (replay es)) board stat b s r normal (has_text (replay es) within) at here a) gives
 
 -- ---- what is taken
@@ -102,7 +111,9 @@ none_taken es new w replica shows is = elim is [
 grown_none : (file : List ℕ) (number : ℕ) (es : List Edit) → grown file number (length es) es ≡ []
 grown_none file number es = let same : (length es == length es) ≡ true = eq-eqb (length es) (length es) refl in rw same refl
 
-draws_nothing : (file : List ℕ) (replica number : ℕ) (es : List Edit) (w : Contents) (x : Effect) → Shows es w → Draws file file replica (given (number, es) None w) (Ok x) → x ≡ nothing es
+draws_nothing : (file : List ℕ) (replica number : ℕ) (es : List Edit) (w : Contents) (x : Effect) → Shows es w
+    → Draws file file replica (given (number, es) None w) (Ok x)
+    → x ≡ nothing es
 unfolding Draws IsJoined
 draws_nothing file replica number es w x shows is =
     let g = given (number, es) None w in
@@ -118,9 +129,12 @@ draws_nothing file replica number es w x shows is =
 
 -- ---- both
 
-pub sets_nothing : PrintedIsRead → OwnProgramStays → ReadIsNormal → (es : List Edit) (board stat : ℕ) (b : BoardData) (s : StatData) → IsNormal (world_of (replay es))
-    → slice_get (world_of (replay es)).boards board ≡ Some b → slice_get b.stats stat ≡ Some s → AllByRecursion (λ c. c < 256) (program_of b.stats s.code)
-    → (text program : List ℕ) → printed board stat es ≡ Ok text → program_in text ≡ Ok program → (file : List ℕ) (replica number : ℕ) (x : Effect)
+pub sets_nothing : PrintedIsRead → OwnProgramStays → ReadIsNormal → (es : List Edit) (board stat : ℕ) (b : BoardData) (s : StatData)
+    → IsNormal (world_of (replay es))
+    → slice_get (world_of (replay es)).boards board ≡ Some b → slice_get b.stats stat ≡ Some s
+    → AllByRecursion (λ c. c < 256) (program_of b.stats s.code)
+    → (text program : List ℕ) → printed board stat es ≡ Ok text → program_in text ≡ Ok program
+    → (file : List ℕ) (replica number : ℕ) (x : Effect)
     → Sets file replica board stat program (number, es) (Ok x) → x ≡ nothing es
 unfolding Sets
 sets_nothing reads stays normal es board stat b s can at here bytes text program prints spells file replica number x is =

@@ -41,7 +41,9 @@ board_plain : (b : Option BoardData) (stat : ℕ) (e : Refusal) → text_on b st
 board_plain None stat e is = same_plain e NoBoard (cc) no_board
 board_plain (Some b) stat e is = stat_plain b (slice_get b.stats stat) e is
 
-over_plain : (over : Option ExportError) (told : Result (List ℕ) Refusal) → ((e : Refusal) → told ≡ Err e → IsPlain e) → (e : Refusal) → unless_over over told ≡ Err e → IsPlain e
+over_plain : (over : Option ExportError) (told : Result (List ℕ) Refusal) → ((e : Refusal) → told ≡ Err e → IsPlain e) → (e : Refusal)
+    → unless_over over told ≡ Err e
+    → IsPlain e
 over_plain None told plain e is = plain e is
 over_plain (Some x) told plain e is = same_plain e (export_refusal x) (cc) (export_plain x)
 

@@ -62,7 +62,8 @@ not_shown es e why = elim why [
 ]
 
 -- a world that gets no program
-pub reprograms_not : (w : Contents) (board stat : ℕ) (program : List ℕ) (x : ReprogramError) (e : DrawingError) → (x ≡ reprogram.Memory) ⊎ IsReprogrammed w board stat program (Err x)
+pub reprograms_not : (w : Contents) (board stat : ℕ) (program : List ℕ) (x : ReprogramError) (e : DrawingError)
+    → (x ≡ reprogram.Memory) ⊎ IsReprogrammed w board stat program (Err x)
     → e ≡ reprogram_refusal x → (e ≡ memory) ⊎ Reprograms w board stat program (Err e)
 reprograms_not w board stat program x e why is = elim why [
   | inl lack ↦ inl (is ∙ ap reprogram_refusal lack)
@@ -78,21 +79,25 @@ pub lacks : {X : Type 0} (p : Type 0) (answer : Result X DrawingError) → p →
 lacks p (Ok x) so = tt
 lacks p (Err e) so = λ _. so
 
-pub lacks_too : {X : Type 0} (p q : Type 0) (answer : Result X DrawingError) → (p → q) → IfErr answer (λ e. e ≡ memory → p) → IfErr answer (λ e. e ≡ memory → q)
+pub lacks_too : {X : Type 0} (p q : Type 0) (answer : Result X DrawingError) → (p → q) → IfErr answer (λ e. e ≡ memory → p)
+    → IfErr answer (λ e. e ≡ memory → q)
 lacks_too p q (Ok x) so is = tt
 lacks_too p q (Err e) so is = λ lack. so (is lack)
 
-pub lacks_none : {X : Type 0} (p : Type 0) (answer : Result X DrawingError) → IfErr answer (λ e. e ≡ file) → IfErr answer (λ e. e ≡ memory → p)
+pub lacks_none : {X : Type 0} (p : Type 0) (answer : Result X DrawingError) → IfErr answer (λ e. e ≡ file)
+    → IfErr answer (λ e. e ≡ memory → p)
 lacks_none p (Ok x) is = tt
 lacks_none p (Err e) is = λ lack. absurd (let both : file ≡ memory = sym is ∙ lack in cc)
 
-pub stamp_none : (p : Type 0) (replica : ℕ) (e : DrawingError) → (replica ≡ 0) × (e ≡ Refused (refusal.BadEdit cause.Stamp)) → e ≡ memory → p
+pub stamp_none : (p : Type 0) (replica : ℕ) (e : DrawingError) → (replica ≡ 0) × (e ≡ Refused (refusal.BadEdit cause.Stamp)) → e ≡ memory
+    → p
 stamp_none p replica e is lack = absurd (let both : Refused (refusal.BadEdit cause.Stamp) ≡ memory = sym is.1 ∙ lack in cc)
 
 -- ---- the text
 
 -- a text that was read is there
-pub text_there : (failed : Type 0) (t : HostContents) (name program : List ℕ) → OfName failed t name IsSpelled (Ok program) → is_some (file_in t name) ≡ true
+pub text_there : (failed : Type 0) (t : HostContents) (name program : List ℕ) → OfName failed t name IsSpelled (Ok program)
+    → is_some (file_in t name) ≡ true
 text_there failed t name program is = go is.0 is.1 is.2
   where
     go : (read : Option (List ℕ)) → IsRead failed t name read → OfFile IsSpelled read (Ok program) → is_some (file_in t name) ≡ true
@@ -105,7 +110,8 @@ text_there failed t name program is = go is.0 is.1 is.2
 pub spelled_so : (text program : List ℕ) → program_in text ≡ Ok program → IsSpelled text (Ok program)
 spelled_so text program is = sym (ap text_told is)
 
-pub spelled_not : (text : List ℕ) (e : TextError) → (e ≡ bad_text.Memory) ⊎ ((bad : Place) × (e ≡ bad_text.Bad bad) × (program_in text ≡ Err bad))
+pub spelled_not : (text : List ℕ) (e : TextError)
+    → (e ≡ bad_text.Memory) ⊎ ((bad : Place) × (e ≡ bad_text.Bad bad) × (program_in text ≡ Err bad))
     → (text_refusal e ≡ memory) ⊎ IsSpelled text (Err (text_refusal e))
 spelled_not text e why = elim why [
   | inl lack ↦ inl (ap text_refusal lack)
@@ -120,10 +126,12 @@ pub changed_not : (es : List Edit) (board stat : ℕ) (program : List ℕ) (d : 
     → (Refused (export_refusal e) ≡ memory) ⊎ IsChanged es board stat program (Err (Refused (export_refusal e)))
 changed_not es board stat program d e same sound is =
     let why = refused_so 32767 d e sound is in
-    let here : (e ≡ export.Memory) ⊎ (refusal_of 32767 (replay es) ≡ Some e) = subst (λ xs. (e ≡ export.Memory) ⊎ (refusal_of 32767 (replay xs) ≡ Some e)) (sym same) why in
+    let here : (e ≡ export.Memory) ⊎ (refusal_of 32767 (replay es) ≡ Some e) =
+    subst (λ xs. (e ≡ export.Memory) ⊎ (refusal_of 32767 (replay xs) ≡ Some e)) (sym same) why in
     step_refused (IsShown es) (λ w. Reprograms w board stat program) (Refused (export_refusal e)) (not_shown es e here)
 
-pub changed_then : {X : Type 0} (es : List Edit) (board stat : ℕ) (program : List ℕ) (d : Replica) (w : Contents) (view : X → Contents) (answer : Result X DrawingError) → es ≡ d.edits → d.is_stale ≡ false
+pub changed_then : {X : Type 0} (es : List Edit) (board stat : ℕ) (program : List ℕ) (d : Replica) (w : Contents) (view : X → Contents) (answer : Result X DrawingError)
+    → es ≡ d.edits → d.is_stale ≡ false
     → Answers {X = Contents} (λ x. x) (unless_stale d (exported 32767)) (Ok w)
     → Gives view (Reprograms w board stat program) answer → Gives view (IsChanged es board stat program) answer
 changed_then es board stat program d w view answer same sound is gives =
@@ -184,18 +192,23 @@ reprogram_other reprogram.NoBoard is = cc
 reprogram_other reprogram.NoSuch is = cc
 reprogram_other (reprogram.BoardOver b n) is = cc
 
-reprograms_other : (w : Contents) (board stat : ℕ) (program : List ℕ) (e : DrawingError) → Reprograms w board stat program (Err e) → e ≡ file → ⊥
+reprograms_other : (w : Contents) (board stat : ℕ) (program : List ℕ) (e : DrawingError) → Reprograms w board stat program (Err e)
+    → e ≡ file
+    → ⊥
 reprograms_other w board stat program e is fault = go is.0 is.2
   where
     go : (m : Result Contents ReprogramError) → Err e ≡ reprogram_told m → ⊥
     go (Ok x) nothing = cc
     go (Err x) why = reprogram_other x (let same : e ≡ reprogram_refusal x = cc in sym same ∙ fault)
 
-changed_other : (es : List Edit) (board stat : ℕ) (program : List ℕ) (e : DrawingError) → IsChanged es board stat program (Err e) → e ≡ file → ⊥
+changed_other : (es : List Edit) (board stat : ℕ) (program : List ℕ) (e : DrawingError) → IsChanged es board stat program (Err e) → e ≡ file
+    → ⊥
 changed_other es board stat program e is fault =
     steps_other (IsShown es) (λ w. Reprograms w board stat program) e (shown_other es e) (λ w. reprograms_other w board stat program e) is fault
 
-pub sets_other : (own : List ℕ) (replica board stat : ℕ) (program : List ℕ) (f : FileEdits) (e : DrawingError) → Sets own replica board stat program f (Err e) → e ≡ file → ⊥
+pub sets_other : (own : List ℕ) (replica board stat : ℕ) (program : List ℕ) (f : FileEdits) (e : DrawingError)
+    → Sets own replica board stat program f (Err e) → e ≡ file
+    → ⊥
 unfolding Sets
 sets_other own replica board stat program f e is fault =
     steps_other (IsChanged f.1 board stat program) (λ w. Draws own own replica (given f None w)) e (changed_other f.1 board stat program e)
@@ -210,13 +223,15 @@ spelled_other text e is fault = go (program_in text) is
 
 -- ---- TEXT and FILE
 
-sets_in_so : (p q : Type 0) (t : HostContents) (own : List ℕ) (replica board stat : ℕ) (program : List ℕ) (r : Result Effect DrawingError) → (p → q)
+sets_in_so : (p q : Type 0) (t : HostContents) (own : List ℕ) (replica board stat : ℕ) (program : List ℕ) (r : Result Effect DrawingError)
+    → (p → q)
     → SetsIn p t own replica board stat program r → SetsIn q t own replica board stat program r
 sets_in_so p q t own replica board stat program r so is =
     steps_so (OpensAs p t None own) (OpensAs q t None own) (Sets own replica board stat program) (Sets own replica board stat program) r
     (λ m a. name_so p q t own (IsOpened None) m so a) (λ f s a. a) is
 
-sets_text_so : (p q : Type 0) (t : HostContents) (own : List ℕ) (replica board stat : ℕ) (text : List ℕ) (r : Result Effect DrawingError) → (p → q)
+sets_text_so : (p q : Type 0) (t : HostContents) (own : List ℕ) (replica board stat : ℕ) (text : List ℕ) (r : Result Effect DrawingError)
+    → (p → q)
     → SetsText p t own replica board stat text r → SetsText q t own replica board stat text r
 unfolding SetsText
 sets_text_so p q t own replica board stat text r so is =
@@ -229,7 +244,8 @@ unfolding SetsText
 text_not failed t own replica board stat text e why =
     step_refused (OfName failed t text IsSpelled) (λ program. SetsIn failed t own replica board stat program) e why
 
-pub text_then : (t : HostContents) (own : List ℕ) (replica board stat : ℕ) (text program : List ℕ) (f0 f1 f2 : ℕ) (answer : Result Effect DrawingError) → f0 ≤ f1 → f1 ≤ f2
+pub text_then : (t : HostContents) (own : List ℕ) (replica board stat : ℕ) (text program : List ℕ) (f0 f1 f2 : ℕ) (answer : Result Effect DrawingError)
+    → f0 ≤ f1 → f1 ≤ f2
     → OfName (Rose f0 f1) t text IsSpelled (Ok program) → Gives (λ x. x) (SetsIn (Rose f1 f2) t own replica board stat program) answer
     → Gives (λ x. x) (SetsText (Rose f0 f2) t own replica board stat text) answer
 unfolding SetsText
@@ -244,12 +260,14 @@ text_then t own replica board stat text program f0 f1 f2 answer le1 le2 reads gi
 abbrev no_replica : Result Effect DrawingError
 no_replica = Err (Refused (refusal.BadEdit cause.Stamp))
 
-pub set_so : (t : HostContents) (own : List ℕ) (replica board stat : ℕ) (text : List ℕ) (p q : Type 0) (r : Result Effect DrawingError) → (p → q)
+pub set_so : (t : HostContents) (own : List ℕ) (replica board stat : ℕ) (text : List ℕ) (p q : Type 0) (r : Result Effect DrawingError)
+    → (p → q)
     → ComesToSet p t own replica board stat text r → ComesToSet q t own replica board stat text r
 unfolding ComesToSet
 set_so t own replica board stat text p q r so is = go (eqb replica 0) is
   where
-    go : (b : Bool) → MatchBool b (r ≡ no_replica) (SetsText p t own replica board stat text r) → MatchBool b (r ≡ no_replica) (SetsText q t own replica board stat text r)
+    go : (b : Bool) → MatchBool b (r ≡ no_replica) (SetsText p t own replica board stat text r)
+        → MatchBool b (r ≡ no_replica) (SetsText q t own replica board stat text r)
     go true is = is
     go false is = sets_text_so p q t own replica board stat text r so is
 
@@ -259,7 +277,8 @@ unfolding ComesToSet
 set_none failed t own replica board stat text is =
     subst (λ b. MatchBool b (no_replica ≡ no_replica) (SetsText failed t own replica board stat text no_replica)) (sym (eq-eqb replica 0 is)) refl
 
-set_some : (failed : Type 0) (t : HostContents) (own : List ℕ) (replica board stat : ℕ) (text : List ℕ) (r : Result Effect DrawingError) → replica ≢ 0
+set_some : (failed : Type 0) (t : HostContents) (own : List ℕ) (replica board stat : ℕ) (text : List ℕ) (r : Result Effect DrawingError)
+    → replica ≢ 0
     → SetsText failed t own replica board stat text r → ComesToSet failed t own replica board stat text r
 unfolding ComesToSet
 set_some failed t own replica board stat text r other is = go (eqb replica 0) refl
@@ -273,15 +292,18 @@ pub set_no_replica : (failed : Type 0) (t : HostContents) (own : List ℕ) (repl
 set_no_replica failed t own replica board stat text e why =
     inr (subst (λ x. ComesToSet failed t own replica board stat text (Err x)) (sym why.1) (set_none failed t own replica board stat text why.0))
 
-pub set_gives : (failed : Type 0) (t : HostContents) (own : List ℕ) (replica board stat : ℕ) (text : List ℕ) (answer : Result Effect DrawingError) → replica ≢ 0
-    → Gives (λ x. x) (SetsText failed t own replica board stat text) answer → Gives (λ x. x) (ComesToSet failed t own replica board stat text) answer
+pub set_gives : (failed : Type 0) (t : HostContents) (own : List ℕ) (replica board stat : ℕ) (text : List ℕ) (answer : Result Effect DrawingError)
+    → replica ≢ 0
+    → Gives (λ x. x) (SetsText failed t own replica board stat text) answer
+    → Gives (λ x. x) (ComesToSet failed t own replica board stat text) answer
 set_gives failed t own replica board stat text answer other is =
     gives_so (λ x. x) (SetsText failed t own replica board stat text) (ComesToSet failed t own replica board stat text) answer
     (λ r a. set_some failed t own replica board stat text r other a) is
 
 -- ---- what is asked for
 
-pub set_join : (own text : List ℕ) (a b : List Call) → a ≡ call (Reading text) false ∷ [] → b ≡ call (Reading own) false ∷ [] → SetReads own text (a ++ b)
+pub set_join : (own text : List ℕ) (a b : List Call) → a ≡ call (Reading text) false ∷ [] → b ≡ call (Reading own) false ∷ []
+    → SetReads own text (a ++ b)
 set_join own text a b is reads = ap (λ c. c ++ b) is ∙ ap (λ c. call (Reading text) false ∷ c) reads
 
 pub set_behind : (own text : List ℕ) (a : List Call) → a ≡ call (Reading text) false ∷ [] → (b : List Call) × SetReads own text (a ++ b)

@@ -39,7 +39,8 @@ code_short lower code.None h = omega arith
 code_short lower (code.Own bytes) h = let lt : length bytes < 32768 = h.1 in omega (arith, lt)
 code_short lower (code.Same n) h = omega arith
 
-stats_short : (boards stats : ℕ) (tiles : List Tile) (lower ss : List StatData) → AreNormalStats boards stats tiles lower ss → length (flat_map stat_text ss) ≤ 32801 * length ss
+stats_short : (boards stats : ℕ) (tiles : List Tile) (lower ss : List StatData) → AreNormalStats boards stats tiles lower ss
+    → length (flat_map stat_text ss) ≤ 32801 * length ss
 stats_short boards stats tiles lower [] h = omega arith
 stats_short boards stats tiles lower (s ∷ ss) h =
     let here = code_short lower s.code h.0.code in
@@ -76,14 +77,16 @@ sharing_short owner program (code.Same n) = go ((length program == 0) && (n == o
     go false = omega arith
 
 -- a stat with another code takes the bytes of that
-stat_length : (s : StatData) (c : Code) (ss : List StatData) → length (flat_map stat_text (stat_with s c ∷ ss)) ≡ 33 + length (code_text c) + length (flat_map stat_text ss)
+stat_length : (s : StatData) (c : Code) (ss : List StatData)
+    → length (flat_map stat_text (stat_with s c ∷ ss)) ≡ 33 + length (code_text c) + length (flat_map stat_text ss)
 stat_length s c ss =
     let x = stat_with s c in
     let here : length (stat_text x) ≡ 33 + length (code_text c) = length_stat x in
     omega (arith, here, length-append (stat_text x) (flat_map stat_text ss))
 
 -- no stat above the one that gets the program has more bytes
-above_short : (owner : ℕ) (program : List ℕ) (n : ℕ) (ss : List StatData) → owner < n → length (flat_map stat_text (stats_from owner program n ss)) ≤ length (flat_map stat_text ss)
+above_short : (owner : ℕ) (program : List ℕ) (n : ℕ) (ss : List StatData) → owner < n
+    → length (flat_map stat_text (stats_from owner program n ss)) ≤ length (flat_map stat_text ss)
 above_short owner program n [] lt = omega arith
 above_short owner program n (s ∷ ss) lt = go (above_short owner program (n + 1) ss (omega (arith, lt))) (n == owner) refl
   where
@@ -97,11 +100,13 @@ above_short owner program n (s ∷ ss) lt = go (above_short owner program (n + 1
         omega (arith, here, rest, new, old)
 
 -- the stats have at most the bytes of the program more
-changed_short : (owner : ℕ) (program : List ℕ) (n : ℕ) (ss : List StatData) → length (flat_map stat_text (stats_from owner program n ss)) ≤ length (flat_map stat_text ss) + length program
+changed_short : (owner : ℕ) (program : List ℕ) (n : ℕ) (ss : List StatData)
+    → length (flat_map stat_text (stats_from owner program n ss)) ≤ length (flat_map stat_text ss) + length program
 changed_short owner program n [] = omega arith
 changed_short owner program n (s ∷ ss) = go (changed_short owner program (n + 1) ss) (n == owner) refl
   where
-    go : length (flat_map stat_text (stats_from owner program (n + 1) ss)) ≤ length (flat_map stat_text ss) + length program → (t : Bool) → (n == owner) ≡ t
+    go : length (flat_map stat_text (stats_from owner program (n + 1) ss)) ≤ length (flat_map stat_text ss) + length program → (t : Bool)
+        → (n == owner) ≡ t
         → length (flat_map stat_text (stat_with s (if t then owned program else sharing owner program s.code) ∷ stats_from owner program (n + 1) ss)) ≤ length (flat_map stat_text (s ∷ ss)) + length program
     go rest true is =
         let same : n ≡ owner = eqb-true n owner is in
@@ -120,7 +125,8 @@ pub length_from : (owner : ℕ) (program : List ℕ) (n : ℕ) (ss : List StatDa
 length_from owner program n [] = refl
 length_from owner program n (s ∷ ss) = let more = length_from owner program (n + 1) ss in omega (arith, more)
 
-pub changed_counted : (boards owner : ℕ) (program : List ℕ) (b : BoardData) → length program < 9223372036854775808 → IsNormalBoard boards b → CanBeCounted (board_with owner program b)
+pub changed_counted : (boards owner : ℕ) (program : List ℕ) (b : BoardData) → length program < 9223372036854775808 → IsNormalBoard boards b
+    → CanBeCounted (board_with owner program b)
 changed_counted boards owner program b lt n = record {
   name = n.name;
   message = n.properties.message;

@@ -33,7 +33,8 @@ get_from owner program i (x ∷ ss) (suc n) s at =
 
 -- one stat more
 from_push : (owner : ℕ) (program : List ℕ) (i : ℕ) (ss : List StatData) (s : StatData)
-    → stats_from owner program i (ss ++ s ∷ []) ≡ stats_from owner program i ss ++ stat_with s (code_in owner program (i + length ss) s.code) ∷ []
+    → stats_from owner program i (ss ++ s ∷ [])
+    ≡ stats_from owner program i ss ++ stat_with s (code_in owner program (i + length ss) s.code) ∷ []
 from_push owner program i [] s =
     let e : i ≡ i + 0 = omega arith in
     ap (λ m. stat_with s (code_in owner program m s.code) ∷ []) e
@@ -60,7 +61,8 @@ shares_normal owner program lower n lt h some_or_other = go (n == owner) refl (l
     at = let e : 0 + n ≡ n = omega arith in
         get_from owner program 0 lower n h.1 h.3 ∙ ap (λ m. Some (stat_with h.1 (code_in owner program m h.1.code))) e
 
-    go : (t : Bool) → (n == owner) ≡ t → (u : Bool) → (length program == 0) ≡ u → IsNormalCode (stats_from owner program 0 lower) (code.Same n)
+    go : (t : Bool) → (n == owner) ≡ t → (u : Bool) → (length program == 0) ≡ u
+        → IsNormalCode (stats_from owner program 0 lower) (code.Same n)
     go true is true none = absurd (let bad : ((length program == 0) && (n == owner)) ≡ true = rw (is, none) refl in let good = some_or_other in cc)
     go true is false some =
         let code_is : code_in owner program n h.1.code ≡ code.Own program = rw (is, some) refl in
@@ -75,7 +77,8 @@ sharing_normal owner program lower code.None lt h = tt
 sharing_normal owner program lower (code.Own bytes) lt h = h
 sharing_normal owner program lower (code.Same n) lt h = go ((length program == 0) && (n == owner)) refl
   where
-    go : (t : Bool) → ((length program == 0) && (n == owner)) ≡ t → IsNormalCode (stats_from owner program 0 lower) (if t then code.None else code.Same n)
+    go : (t : Bool) → ((length program == 0) && (n == owner)) ≡ t
+        → IsNormalCode (stats_from owner program 0 lower) (if t then code.None else code.Same n)
     go true is = tt
     go false is = shares_normal owner program lower n lt h is
 
@@ -87,8 +90,10 @@ code_normal owner program lower number c lt h = go (number == owner)
     go true = owned_normal (stats_from owner program 0 lower) program lt
     go false = sharing_normal owner program lower c lt h
 
-stat_normal : (owner : ℕ) (program : List ℕ) (boards stats : ℕ) (tiles : List Tile) (lower : List StatData) (number : ℕ) (s : StatData) → length program < 32768
-    → IsNormalStat boards stats tiles lower s → IsNormalStat boards stats tiles (stats_from owner program 0 lower) (stat_with s (code_in owner program number s.code))
+stat_normal : (owner : ℕ) (program : List ℕ) (boards stats : ℕ) (tiles : List Tile) (lower : List StatData) (number : ℕ) (s : StatData)
+    → length program < 32768
+    → IsNormalStat boards stats tiles lower s
+    → IsNormalStat boards stats tiles (stats_from owner program 0 lower) (stat_with s (code_in owner program number s.code))
 stat_normal owner program boards stats tiles lower number s lt h = record {
   step_x = h.step_x;
   step_y = h.step_y;
@@ -100,8 +105,10 @@ stat_normal owner program boards stats tiles lower number s lt h = record {
   code = code_normal owner program lower number s.code lt h.code;
 }
 
-stats_normal : (owner : ℕ) (program : List ℕ) (boards stats : ℕ) (tiles : List Tile) (n : ℕ) (lower ss : List StatData) → length program < 32768 → n ≡ length lower
-    → AreNormalStats boards stats tiles lower ss → AreNormalStats boards stats tiles (stats_from owner program 0 lower) (stats_from owner program n ss)
+stats_normal : (owner : ℕ) (program : List ℕ) (boards stats : ℕ) (tiles : List Tile) (n : ℕ) (lower ss : List StatData)
+    → length program < 32768 → n ≡ length lower
+    → AreNormalStats boards stats tiles lower ss
+    → AreNormalStats boards stats tiles (stats_from owner program 0 lower) (stats_from owner program n ss)
 stats_normal owner program boards stats tiles n lower [] lt is h = tt
 stats_normal owner program boards stats tiles n lower (s ∷ ss) lt is h =
     let e : 0 + length lower ≡ n = omega (arith, is) in
@@ -112,7 +119,8 @@ stats_normal owner program boards stats tiles n lower (s ∷ ss) lt is h =
 
 -- ---- boards and worlds
 
-pub board_normal : (owner : ℕ) (program : List ℕ) (boards : ℕ) (b : BoardData) → length program < 32768 → IsNormalBoard boards b → IsNormalBoard boards (board_with owner program b)
+pub board_normal : (owner : ℕ) (program : List ℕ) (boards : ℕ) (b : BoardData) → length program < 32768 → IsNormalBoard boards b
+    → IsNormalBoard boards (board_with owner program b)
 board_normal owner program boards b lt h =
     let same = length_from owner program 0 b.stats in
     record {
@@ -125,7 +133,8 @@ board_normal owner program boards b lt h =
           (stats_normal owner program boards (length b.stats) b.tiles 0 [] b.stats lt refl h.stats);
     }
 
-pub world_normal : (w : Contents) (number : ℕ) (b : BoardData) → HasNormalParts w → IsNormalBoard (length w.boards) b → HasNormalParts (world_with w number b)
+pub world_normal : (w : Contents) (number : ℕ) (b : BoardData) → HasNormalParts w → IsNormalBoard (length w.boards) b
+    → HasNormalParts (world_with w number b)
 world_normal w number b h is =
     let same = length_set w.boards number b in
     record {

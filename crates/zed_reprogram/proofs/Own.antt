@@ -31,7 +31,8 @@ set_same (y ∷ xs) (suc n) x at = ap (λ zs. y ∷ zs) (set_same xs n x at)
 -- ---- what is known of the programs of normal stats
 
 -- a program of its own has bytes
-own_has : (boards stats : ℕ) (tiles : List Tile) (lower ss : List StatData) (k : ℕ) (s : StatData) (bytes : List ℕ) → AreNormalStats boards stats tiles lower ss
+own_has : (boards stats : ℕ) (tiles : List Tile) (lower ss : List StatData) (k : ℕ) (s : StatData) (bytes : List ℕ)
+    → AreNormalStats boards stats tiles lower ss
     → slice_get ss k ≡ Some s → s.code ≡ code.Own bytes → 0 < length bytes
 own_has boards stats tiles lower [] k s bytes h at is = absurd (cc)
 own_has boards stats tiles lower (x ∷ ss) zero s bytes h at is =
@@ -42,8 +43,10 @@ own_has boards stats tiles lower (x ∷ ss) zero s bytes h at is =
 own_has boards stats tiles lower (x ∷ ss) (suc k) s bytes h at is = own_has boards stats tiles (lower ++ x ∷ []) ss k s bytes h.1 at is
 
 -- a stat that shares a program shares that of a stat with a program of its own
-shares_own : (boards stats : ℕ) (tiles : List Tile) (lower ss : List StatData) (k : ℕ) (s : StatData) (n : ℕ) → AreNormalStats boards stats tiles lower ss
-    → slice_get ss k ≡ Some s → s.code ≡ code.Same n → (o : StatData) × (bytes : List ℕ) × (slice_get (lower ++ ss) n ≡ Some o) × (o.code ≡ code.Own bytes)
+shares_own : (boards stats : ℕ) (tiles : List Tile) (lower ss : List StatData) (k : ℕ) (s : StatData) (n : ℕ)
+    → AreNormalStats boards stats tiles lower ss
+    → slice_get ss k ≡ Some s → s.code ≡ code.Same n
+    → (o : StatData) × (bytes : List ℕ) × (slice_get (lower ++ ss) n ≡ Some o) × (o.code ≡ code.Own bytes)
 shares_own boards stats tiles lower [] k s n h at is = absurd (cc)
 shares_own boards stats tiles lower (x ∷ ss) zero s n h at is =
     let same : x ≡ s = cc in
@@ -70,14 +73,17 @@ owned_own bytes some = go (length bytes == 0) refl
     go true is = absurd (let none : length bytes ≡ 0 = eqb-true (length bytes) 0 is in omega (arith, some, none))
     go false is = refl
 
-owner_with : (ss : List StatData) (owner : ℕ) (bytes : List ℕ) (o : StatData) → slice_get ss owner ≡ Some o → o.code ≡ code.Own bytes → 0 < length bytes → IsOwner ss owner bytes o
+owner_with : (ss : List StatData) (owner : ℕ) (bytes : List ℕ) (o : StatData) → slice_get ss owner ≡ Some o → o.code ≡ code.Own bytes
+    → 0 < length bytes
+    → IsOwner ss owner bytes o
 owner_with ss owner bytes o at is some = record {
   at = at;
   same = owned_own bytes some ∙ sym is;
   none = λ no. absurd (omega (arith, some, no));
 }
 
-owner_is : (boards stats : ℕ) (tiles : List Tile) (ss : List StatData) (k : ℕ) (s : StatData) → AreNormalStats boards stats tiles [] ss → slice_get ss k ≡ Some s
+owner_is : (boards stats : ℕ) (tiles : List Tile) (ss : List StatData) (k : ℕ) (s : StatData) → AreNormalStats boards stats tiles [] ss
+    → slice_get ss k ≡ Some s
     → (o : StatData) × IsOwner ss (owner_of k s.code) (program_of ss s.code) o
 owner_is boards stats tiles ss k s h at = go s.code refl
   where
@@ -93,11 +99,13 @@ owner_is boards stats tiles ss k s h at = go s.code refl
 -- ---- each stat stays
 
 code_stays : (boards stats : ℕ) (tiles : List Tile) (ss : List StatData) (owner : ℕ) (program : List ℕ) (o : StatData) (k : ℕ) (s : StatData)
-    → AreNormalStats boards stats tiles [] ss → IsOwner ss owner program o → slice_get ss k ≡ Some s → code_in owner program k s.code ≡ s.code
+    → AreNormalStats boards stats tiles [] ss → IsOwner ss owner program o → slice_get ss k ≡ Some s
+    → code_in owner program k s.code ≡ s.code
 code_stays boards stats tiles ss owner program o k s h has at = go (k == owner) refl
   where
     -- a stat doesn't share a program that has no bytes
-    shared : (n : ℕ) → s.code ≡ code.Same n → (t : Bool) → (length program == 0) ≡ t → (u : Bool) → (n == owner) ≡ u → (if t && u then code.None else code.Same n) ≡ code.Same n
+    shared : (n : ℕ) → s.code ≡ code.Same n → (t : Bool) → (length program == 0) ≡ t → (u : Bool) → (n == owner) ≡ u
+        → (if t && u then code.None else code.Same n) ≡ code.Same n
     shared n is true none true it = absurd (
         let x = shares_own boards stats tiles [] ss k s n h at is in
         let here : n ≡ owner = eqb-true n owner it in
@@ -126,7 +134,8 @@ code_stays boards stats tiles ss owner program o k s h has at = go (k == owner) 
     go false is = other s.code refl
 
 -- stats of which each keeps its code
-stats_stay : (owner : ℕ) (program : List ℕ) (i : ℕ) (ss : List StatData) → ((k : ℕ) (s : StatData) → slice_get ss k ≡ Some s → code_in owner program (i + k) s.code ≡ s.code)
+stats_stay : (owner : ℕ) (program : List ℕ) (i : ℕ) (ss : List StatData)
+    → ((k : ℕ) (s : StatData) → slice_get ss k ≡ Some s → code_in owner program (i + k) s.code ≡ s.code)
     → stats_from owner program i ss ≡ ss
 stats_stay owner program i [] each = refl
 stats_stay owner program i (s ∷ ss) each =
@@ -155,19 +164,24 @@ fits_itself : (w v : Contents) (r : Result Contents ReprogramError) → v ≡ w 
 fits_itself w v r same text fits = elim fits [
   | inl whole ↦ whole.1 ∙ ap (λ x. Ok x) same
   | inr over ↦ absurd (
-      let told : first_over 32767 0 w.boards ≡ Some (world.BoardOver over.0 over.1) = subst (λ (x : Contents). first_over 32767 0 x.boards ≡ Some (world.BoardOver over.0 over.1)) same over.2 in
+      let told : first_over 32767 0 w.boards ≡ Some (world.BoardOver over.0 over.1) =
+      subst (λ (x : Contents). first_over 32767 0 x.boards ≡ Some (world.BoardOver over.0 over.1)) same over.2 in
       let both : None ≡ Some (world.BoardOver over.0 over.1) = sym text ∙ told in
       cc)
 ]
 
-pub stays : (w : Contents) (board stat : ℕ) (b : BoardData) (s : StatData) (r : Result Contents ReprogramError) → HasNormalParts w → HasText 32767 w
-    → slice_get w.boards board ≡ Some b → slice_get b.stats stat ≡ Some s → IsReprogrammed w board stat (program_of b.stats s.code) r → r ≡ Ok w
+pub stays : (w : Contents) (board stat : ℕ) (b : BoardData) (s : StatData) (r : Result Contents ReprogramError) → HasNormalParts w
+    → HasText 32767 w
+    → slice_get w.boards board ≡ Some b → slice_get b.stats stat ≡ Some s → IsReprogrammed w board stat (program_of b.stats s.code) r
+    → r ≡ Ok w
 unfolding IsReprogrammed
 stays w board stat b s r normal text at here is =
     let program = program_of b.stats s.code in
     let on_board : OfBoard w board stat program (Some b) r = subst (λ o. OfBoard w board stat program o r) at is in
     let on_stat : OfStat w board b stat program (Some s) r = subst (λ o. OfStat w board b stat program o r) here on_board in
     let kept = board_stays (length w.boards) b stat s (all_get (IsNormalBoard (length w.boards)) w.boards board b normal.boards at) here in
-    let boards : slice_set w.boards board (board_with (owner_of stat s.code) program b) ≡ w.boards = ap (λ x. slice_set w.boards board x) kept ∙ set_same w.boards board b at in
-    let same : world_with w board (board_with (owner_of stat s.code) program b) ≡ w = ap (λ (bs : List BoardData). record w { boards = bs }) boards in
+    let boards : slice_set w.boards board (board_with (owner_of stat s.code) program b) ≡ w.boards =
+    ap (λ x. slice_set w.boards board x) kept ∙ set_same w.boards board b at in
+    let same : world_with w board (board_with (owner_of stat s.code) program b) ≡ w =
+    ap (λ (bs : List BoardData). record w { boards = bs }) boards in
     fits_itself w (world_with w board (board_with (owner_of stat s.code) program b)) r same text on_stat

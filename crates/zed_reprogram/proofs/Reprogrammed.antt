@@ -9,18 +9,21 @@ use Rattle.zed_reprogram.specs.declared.error.ReprogramError.TheVariants.{Memory
 use Rattle.zed_reprogram.specs.Codes.{owner_of}
 use Rattle.zed_reprogram.specs.Worlds.{Fits, HasStat, IsReprogrammed, OfBoard, OfStat, board_with, world_with}
 
-pub no_board : (w : Contents) (board stat : ℕ) (program : List ℕ) → slice_get w.boards board ≡ None → IsReprogrammed w board stat program (Err NoBoard)
+pub no_board : (w : Contents) (board stat : ℕ) (program : List ℕ) → slice_get w.boards board ≡ None
+    → IsReprogrammed w board stat program (Err NoBoard)
 unfolding IsReprogrammed
 no_board w board stat program at = subst (λ o. OfBoard w board stat program o (Err NoBoard)) (sym at) refl
 
-pub no_such : (w : Contents) (board stat : ℕ) (program : List ℕ) (b : BoardData) → slice_get w.boards board ≡ Some b → slice_get b.stats stat ≡ None
+pub no_such : (w : Contents) (board stat : ℕ) (program : List ℕ) (b : BoardData) → slice_get w.boards board ≡ Some b
+    → slice_get b.stats stat ≡ None
     → IsReprogrammed w board stat program (Err NoSuch)
 unfolding IsReprogrammed
 no_such w board stat program b at here =
     subst (λ o. OfBoard w board stat program o (Err NoSuch)) (sym at) (subst (λ o. OfStat w board b stat program o (Err NoSuch)) (sym here) refl)
 
 fits : (w : Contents) (board stat : ℕ) (program : List ℕ) (b : BoardData) (s : StatData) (number : ℕ) (changed : BoardData) (r : Result Contents ReprogramError)
-    → slice_get w.boards board ≡ Some b → slice_get b.stats stat ≡ Some s → number ≡ board → changed ≡ board_with (owner_of stat s.code) program b
+    → slice_get w.boards board ≡ Some b → slice_get b.stats stat ≡ Some s → number ≡ board
+    → changed ≡ board_with (owner_of stat s.code) program b
     → Fits (world_with w number changed) r → IsReprogrammed w board stat program r
 unfolding IsReprogrammed
 fits w board stat program b s number changed r at here same is fit =
@@ -29,10 +32,12 @@ fits w board stat program b s number changed r at here same is fit =
     subst (λ o. OfBoard w board stat program o r) (sym at) (subst (λ o. OfStat w board b stat program o r) (sym here) whole)
 
 pub reprogrammed : (w : Contents) (board stat : ℕ) (program : List ℕ) (b : BoardData) (s : StatData) (number : ℕ) (changed : BoardData) (answer : Result Contents ReprogramError)
-    → slice_get w.boards board ≡ Some b → slice_get b.stats stat ≡ Some s → number ≡ board → changed ≡ board_with (owner_of stat s.code) program b
+    → slice_get w.boards board ≡ Some b → slice_get b.stats stat ≡ Some s → number ≡ board
+    → changed ≡ board_with (owner_of stat s.code) program b
     → MatchResult answer (λ v. Fits (world_with w number changed) (Ok v)) (λ e. (e ≡ Memory) ⊎ Fits (world_with w number changed) (Err e))
     → MatchResult answer (λ v. IsReprogrammed w board stat program (Ok v)) (λ e. (e ≡ Memory) ⊎ IsReprogrammed w board stat program (Err e))
-reprogrammed w board stat program b s number changed (Ok v) at here same is fit = fits w board stat program b s number changed (Ok v) at here same is fit
+reprogrammed w board stat program b s number changed (Ok v) at here same is fit =
+    fits w board stat program b s number changed (Ok v) at here same is fit
 reprogrammed w board stat program b s number changed (Err e) at here same is fit = elim fit [
   | inl lack ↦ inl lack
   | inr why ↦ inr (fits w board stat program b s number changed (Err e) at here same is why)

@@ -32,7 +32,8 @@ part_of (x ∷ ss) (suc n) s at =
 -- ---- the stat that has the bytes
 
 -- a stat shares the program of a lower one
-shared_below : (boards stats : ℕ) (tiles : List Tile) (lower ss : List StatData) (k : ℕ) (s : StatData) (n : ℕ) → AreNormalStats boards stats tiles lower ss
+shared_below : (boards stats : ℕ) (tiles : List Tile) (lower ss : List StatData) (k : ℕ) (s : StatData) (n : ℕ)
+    → AreNormalStats boards stats tiles lower ss
     → slice_get ss k ≡ Some s → s.code ≡ code.Same n → n < length lower + k
 shared_below boards stats tiles lower [] k s n h at is = absurd (cc)
 shared_below boards stats tiles lower (x ∷ ss) zero s n h at is =
@@ -45,7 +46,8 @@ shared_below boards stats tiles lower (x ∷ ss) (suc k) s n h at is =
     let more = shared_below boards stats tiles (lower ++ x ∷ []) ss k s n h.1 at is in
     omega (arith, more, length_push lower x)
 
-owner_within : (boards : ℕ) (b : BoardData) (k : ℕ) (s : StatData) → IsNormalBoard boards b → slice_get b.stats k ≡ Some s → owner_of k s.code < length b.stats
+owner_within : (boards : ℕ) (b : BoardData) (k : ℕ) (s : StatData) → IsNormalBoard boards b → slice_get b.stats k ≡ Some s
+    → owner_of k s.code < length b.stats
 owner_within boards b k s h at = go s.code refl
   where
     within : k < length b.stats
@@ -58,7 +60,8 @@ owner_within boards b k s h at = go s.code refl
 
 -- ---- a short body
 
-pub program_short : (boards : ℕ) (b : BoardData) (k : ℕ) (s : StatData) (program : List ℕ) → IsNormalBoard boards b → slice_get b.stats k ≡ Some s
+pub program_short : (boards : ℕ) (b : BoardData) (k : ℕ) (s : StatData) (program : List ℕ) → IsNormalBoard boards b
+    → slice_get b.stats k ≡ Some s
     → HasShortBody (board_with (owner_of k s.code) program b) → length program < 32768
 program_short boards b k s program h at short =
     let owner = owner_of k s.code in
@@ -66,8 +69,10 @@ program_short boards b k s program h at short =
     let got = get_from owner program 0 b.stats owner o.0 o.1 in
     let e : 0 + owner ≡ owner = omega arith in
     let itself : (owner == owner) ≡ true = eq-eqb owner owner refl in
-    let code_is : code_in owner program (0 + owner) o.0.code ≡ owned program = ap (λ m. code_in owner program m o.0.code) e ∙ rw itself refl in
-    let long : length (code_text (code_in owner program (0 + owner) o.0.code)) ≡ length program = ap (λ c. length (code_text c)) code_is ∙ owned_length program in
+    let code_is : code_in owner program (0 + owner) o.0.code ≡ owned program =
+    ap (λ m. code_in owner program m o.0.code) e ∙ rw itself refl in
+    let long : length (code_text (code_in owner program (0 + owner) o.0.code)) ≡ length program =
+    ap (λ c. length (code_text c)) code_is ∙ owned_length program in
     let part = part_of (stats_from owner program 0 b.stats) owner (stat_with o.0 (code_in owner program (0 + owner) o.0.code)) got in
     let whole = length_body (board_with owner program b) h.name h.properties.message in
     omega (arith, long, part, whole, short)
@@ -77,6 +82,8 @@ program_short boards b k s program h at short =
         let lt = owner_within boards b k s h at in
         (_, slice_get-get_or b.stats (owner_of k s.code) s lt)
 
-pub changed_normal : (boards : ℕ) (b : BoardData) (k : ℕ) (s : StatData) (program : List ℕ) → IsNormalBoard boards b → slice_get b.stats k ≡ Some s
+pub changed_normal : (boards : ℕ) (b : BoardData) (k : ℕ) (s : StatData) (program : List ℕ) → IsNormalBoard boards b
+    → slice_get b.stats k ≡ Some s
     → HasShortBody (board_with (owner_of k s.code) program b) → IsNormalBoard boards (board_with (owner_of k s.code) program b)
-changed_normal boards b k s program h at short = board_normal (owner_of k s.code) program boards b (program_short boards b k s program h at short) h
+changed_normal boards b k s program h at short =
+    board_normal (owner_of k s.code) program boards b (program_short boards b k s program h at short) h

@@ -15,12 +15,14 @@ positive (suc n) = omega arith
 -- of a run that is long enough, so many tiles
 enough : (wanted n : ℕ) (t : Tile) (rest : List Tile) → wanted ≤ n → replicate (min wanted n) t ≡ take wanted (replicate n t ++ rest)
 enough wanted n t rest le =
-    let split : replicate n t ≡ replicate wanted t ++ replicate (n - wanted) t = ap (λ (k : ℕ). replicate k t) (omega arith) ∙ sym (replicate-append-replicate wanted (n - wanted) t) in
+    let split : replicate n t ≡ replicate wanted t ++ replicate (n - wanted) t =
+    ap (λ (k : ℕ). replicate k t) (omega arith) ∙ sym (replicate-append-replicate wanted (n - wanted) t) in
     let low : min wanted n ≡ wanted = omega arith in
     ap (λ (k : ℕ). replicate k t) low ∙ sym (ap (λ (r : List Tile). take wanted (r ++ rest)) split ∙ ap (take wanted) (append_assoc (replicate wanted t) (replicate (n - wanted) t) rest) ∙ take_at (replicate wanted t) (replicate (n - wanted) t ++ rest) wanted (length-replicate wanted t))
 
 -- of a run that isn't, all of them
-take_over : (wanted n : ℕ) (t : Tile) (rest : List Tile) → n ≤ wanted → replicate (min wanted n) t ++ take (wanted - n) rest ≡ take wanted (replicate n t ++ rest)
+take_over : (wanted n : ℕ) (t : Tile) (rest : List Tile) → n ≤ wanted
+    → replicate (min wanted n) t ++ take (wanted - n) rest ≡ take wanted (replicate n t ++ rest)
 take_over wanted zero t rest le =
     let low : min wanted 0 ≡ 0 = omega arith in
     let all : wanted - 0 ≡ wanted = omega arith in
@@ -32,20 +34,25 @@ take_over (suc wanted) (suc n) t rest le =
     rw (low, less) (ap (λ (r : List Tile). t ∷ r) (take_over wanted n t rest (omega arith)))
 
 -- runs at the front are read
-pub runs_read : (front : List Triple) (last : Triple) (wanted : ℕ) (rest : List ℕ) → length (expansion front) < wanted → wanted ≤ length (expansion (front ++ last ∷ []))
+pub runs_read : (front : List Triple) (last : Triple) (wanted : ℕ) (rest : List ℕ) → length (expansion front) < wanted
+    → wanted ≤ length (expansion (front ++ last ∷ []))
     → tiles_at wanted (text (front ++ last ∷ []) ++ rest) ≡ Some (take wanted (expansion (front ++ last ∷ [])), rest)
 unfolding tiles_at
 runs_read [] last zero rest short long = absurd (omega arith)
 runs_read [] last (suc w) rest short long =
     let n = tiles_of_count last.count in
-    let all : suc w ≤ n = omega (arith, length-expansion-append [] (last ∷ []), length-replicate n last.tile, length-append (replicate n last.tile) []) in
+    let all : suc w ≤ n =
+    omega (arith, length-expansion-append [] (last ∷ []), length-replicate n last.tile, length-append (replicate n last.tile) []) in
     let none : suc w - n ≡ 0 = omega arith in
     rw none (ap (λ (ts : List Tile). Some (ts, rest)) (append-nil (replicate (min (suc w) n) last.tile) ∙ enough (suc w) n last.tile [] all))
 runs_read (t ∷ ts) last zero rest short long = absurd (omega arith)
 runs_read (t ∷ ts) last (suc w) rest short long =
     let n = tiles_of_count t.count in
-    let first : length (expansion (t ∷ ts)) ≡ n + length (expansion ts) = length-append (replicate n t.tile) (expansion ts) ∙ ap (λ (k : ℕ). k + length (expansion ts)) (length-replicate n t.tile) in
-    let whole : length (expansion (t ∷ (ts ++ last ∷ []))) ≡ n + length (expansion (ts ++ last ∷ [])) = length-append (replicate n t.tile) (expansion (ts ++ last ∷ [])) ∙ ap (λ (k : ℕ). k + length (expansion (ts ++ last ∷ []))) (length-replicate n t.tile) in
+    let first : length (expansion (t ∷ ts)) ≡ n + length (expansion ts) =
+    length-append (replicate n t.tile) (expansion ts) ∙ ap (λ (k : ℕ). k + length (expansion ts)) (length-replicate n t.tile) in
+    let whole : length (expansion (t ∷ (ts ++ last ∷ []))) ≡ n + length (expansion (ts ++ last ∷ [])) =
+    length-append (replicate n t.tile) (expansion (ts ++ last ∷ []))
+    ∙ ap (λ (k : ℕ). k + length (expansion (ts ++ last ∷ []))) (length-replicate n t.tile) in
     let others = runs_read ts last (suc w - n) rest (omega arith) (omega arith) in
     rw others (ap (λ (r : List Tile). Some (r, rest)) (take_over (suc w) n t.tile (expansion (ts ++ last ∷ [])) (omega arith)))
 
@@ -66,19 +73,23 @@ pub record Found (wanted : ℕ) (bytes : List ℕ) (tiles : List Tile) (rest : L
   pub whole : length tiles ≡ wanted
   pub short : length (expansion front) < wanted
 
-followed_is : (tiles : List Tile) (r : Option (List Tile × List ℕ)) (y : List Tile × List ℕ) → followed_by tiles r ≡ Some y → (x : List Tile × List ℕ) × (r ≡ Some x) × ((tiles ++ x.0, x.1) ≡ y)
+followed_is : (tiles : List Tile) (r : Option (List Tile × List ℕ)) (y : List Tile × List ℕ) → followed_by tiles r ≡ Some y
+    → (x : List Tile × List ℕ) × (r ≡ Some x) × ((tiles ++ x.0, x.1) ≡ y)
 followed_is tiles (Some x) y h = (x, refl, some_is (tiles ++ x.0, x.1) y h)
   where
     some_is : (p q : List Tile × List ℕ) → Some p ≡ Some q → p ≡ q
     some_is p q h = cc
 followed_is tiles None y h = absurd cc
 
-last_run : (w : ℕ) (t : Triple) (rest : List ℕ) → suc w ≤ tiles_of_count t.count → Found (suc w) (t.count ∷ t.tile.element ∷ t.tile.colour ∷ rest) (replicate (min (suc w) (tiles_of_count t.count)) t.tile ++ []) rest
+last_run : (w : ℕ) (t : Triple) (rest : List ℕ) → suc w ≤ tiles_of_count t.count
+    → Found (suc w) (t.count ∷ t.tile.element ∷ t.tile.colour ∷ rest) (replicate (min (suc w) (tiles_of_count t.count)) t.tile ++ []) rest
 last_run w t rest le =
     let n = tiles_of_count t.count in
     let low : min (suc w) n ≡ suc w = omega arith in
-    let split : replicate n t.tile ≡ replicate (suc w) t.tile ++ replicate (n - suc w) t.tile = ap (λ (k : ℕ). replicate k t.tile) (omega arith) ∙ sym (replicate-append-replicate (suc w) (n - suc w) t.tile) in
-    let tiles : replicate (min (suc w) n) t.tile ++ [] ≡ replicate (suc w) t.tile = append-nil (replicate (min (suc w) n) t.tile) ∙ ap (λ (k : ℕ). replicate k t.tile) low in
+    let split : replicate n t.tile ≡ replicate (suc w) t.tile ++ replicate (n - suc w) t.tile =
+    ap (λ (k : ℕ). replicate k t.tile) (omega arith) ∙ sym (replicate-append-replicate (suc w) (n - suc w) t.tile) in
+    let tiles : replicate (min (suc w) n) t.tile ++ [] ≡ replicate (suc w) t.tile =
+    append-nil (replicate (min (suc w) n) t.tile) ∙ ap (λ (k : ℕ). replicate k t.tile) low in
     record {
       front = [];
       last = t;
@@ -89,7 +100,8 @@ last_run w t rest le =
       short = omega arith;
     }
 
-more_runs : (w m : ℕ) (t : Triple) (rest after : List ℕ) (tiles : List Tile) → m + tiles_of_count t.count ≡ w → Found m rest tiles after → Found w (t.count ∷ t.tile.element ∷ t.tile.colour ∷ rest) (replicate (min w (tiles_of_count t.count)) t.tile ++ tiles) after
+more_runs : (w m : ℕ) (t : Triple) (rest after : List ℕ) (tiles : List Tile) → m + tiles_of_count t.count ≡ w → Found m rest tiles after
+    → Found w (t.count ∷ t.tile.element ∷ t.tile.colour ∷ rest) (replicate (min w (tiles_of_count t.count)) t.tile ++ tiles) after
 more_runs w m t rest after tiles sum f =
     let n = tiles_of_count t.count in
     let low : min w n ≡ n = omega arith in
@@ -99,7 +111,9 @@ more_runs w m t rest after tiles sum f =
       last = f.last;
       more = f.more;
       spelled = ap (λ (b : List ℕ). t.count ∷ t.tile.element ∷ t.tile.colour ∷ b) f.spelled;
-      expands = ap (λ (r : List Tile). replicate n t.tile ++ r) f.expands ∙ sym (append_assoc (replicate n t.tile) tiles f.more) ∙ ap (λ (r : List Tile). (r ++ tiles) ++ f.more) (sym run_is);
+      expands =
+          ap (λ (r : List Tile). replicate n t.tile ++ r) f.expands ∙ sym (append_assoc (replicate n t.tile) tiles f.more)
+          ∙ ap (λ (r : List Tile). (r ++ tiles) ++ f.more) (sym run_is);
       whole = omega (arith, length-append (replicate (min w n) t.tile) tiles, length-replicate (min w n) t.tile, f.whole);
       short = omega (arith, length-append (replicate n t.tile) (expansion f.front), length-replicate n t.tile, f.short);
     }
@@ -138,7 +152,8 @@ no_tiles bytes none = decided (tiles_at 1500 bytes) refl
         let cut : take (length front) bytes ≡ front = ap (take (length front)) f.spelled ∙ take_at front x.1 (length front) refl in
         absurd (none x.0 (length front) (record { front = f.front; last = f.last; more = f.more; spelled = cut; expands = f.expands; whole = f.whole; short = f.short }))
 
-pub tiles_of_runs : (bytes rest : List ℕ) (tiles : List Tile) → tiles_at 1500 bytes ≡ Some (tiles, rest) → (front : List ℕ) × Runs tiles front × (bytes ≡ front ++ rest)
+pub tiles_of_runs : (bytes rest : List ℕ) (tiles : List Tile) → tiles_at 1500 bytes ≡ Some (tiles, rest)
+    → (front : List ℕ) × Runs tiles front × (bytes ≡ front ++ rest)
 tiles_of_runs bytes rest tiles h =
     let f = tiles_found 1499 bytes (tiles, rest) h in
     (text (f.front ++ f.last ∷ []), record { front = f.front; last = f.last; more = f.more; spelled = refl; expands = f.expands; whole = f.whole; short = f.short }, f.spelled)

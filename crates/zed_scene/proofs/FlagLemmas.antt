@@ -26,7 +26,8 @@ put_changes w (f ∷ fs) (suc i) none h e =
     put_changes w fs i (neither (bytes_eq f w) (has_flag fs w) none).1 (omega arith) (same_tail f f (slice_set fs i w) fs e)
 
 -- where no flag has a word and one is free, the word changes the flags
-pub flag_changes : (w : List ℕ) (fs : List (List ℕ)) (i : ℕ) → has_flag fs w ≡ false → position is_free fs ≡ Some i → i < length fs → flagged w fs ≢ fs
+pub flag_changes : (w : List ℕ) (fs : List (List ℕ)) (i : ℕ) → has_flag fs w ≡ false → position is_free fs ≡ Some i → i < length fs
+    → flagged w fs ≢ fs
 unfolding flagged
 flag_changes w fs i none free h e =
     let put : flagged w fs ≡ slice_set fs i w = rw (none, free) refl in

@@ -11,7 +11,8 @@ use Rattle.zed_scene.specs.Moving.{is_pushable, pushed, pushed_by}
 use Rattle.zed_scene.specs.Trying.{is_nowhere, push_rule}
 
 -- a number that a step leads to is in the table
-in_table : (most k to : ℕ) (a b : Bool) → nat_le 1 k ≡ a → nat_le k most ≡ b → cond (a && b) (Some k) None ≡ Some to → (k ≡ to) × (1 ≤ k) × (k ≤ most)
+in_table : (most k to : ℕ) (a b : Bool) → nat_le 1 k ≡ a → nat_le k most ≡ b → cond (a && b) (Some k) None ≡ Some to
+    → (k ≡ to) × (1 ≤ k) × (k ≤ most)
 in_table most k to true true x y e =
     let same : k ≡ to = cc in
     (same, leb-true 1 k x, leb-true k most y)
@@ -28,7 +29,8 @@ to_number most (pos k) to e =
 to_number most (negsuc k) to e = absurd (cc)
 
 -- below where it began, where the step is negative
-fallen : (from k to : ℕ) (b : Bool) → ltb from (suc k) ≡ b → cond b (negsuc (suc k - suc from)) (pos (from - suc k)) ≡ pos to → 1 ≤ to → to < from
+fallen : (from k to : ℕ) (b : Bool) → ltb from (suc k) ≡ b → cond b (negsuc (suc k - suc from)) (pos (from - suc k)) ≡ pos to → 1 ≤ to
+    → to < from
 fallen from k to true x e h = absurd (cc)
 fallen from k to false x e h =
     let is : from - suc k ≡ to = cc in
@@ -40,7 +42,8 @@ room_on most v (pos zero) = 0
 room_on most v (pos (suc k)) = most - v
 room_on most v (negsuc k) = v - 1
 
-less_on : (most from : ℕ) (by : ℤ) (to : ℕ) → moved most from by ≡ Some to → int_eq by (pos 0) ≡ false → room_on most to by < room_on most from by
+less_on : (most from : ℕ) (by : ℤ) (to : ℕ) → moved most from by ≡ Some to → int_eq by (pos 0) ≡ false
+    → room_on most to by < room_on most from by
 unfolding room_on
 less_on most from (pos zero) to e h = absurd (cc)
 less_on most from (pos (suc k)) to e h =
@@ -65,7 +68,8 @@ within_on most v (negsuc k) a b = omega arith
 room : Place → Step → ℕ
 room p d = cond (int_eq d.x (pos 0)) (room_on 25 p.y d.y) (room_on 60 p.x d.x)
 
-joined : (a b : Option ℕ) (n : Place) → (a >>= (λ x. b >>= (λ y. Some (record { x = x; y = y })))) ≡ Some n → (a ≡ Some n.x) × (b ≡ Some n.y)
+joined : (a b : Option ℕ) (n : Place) → (a >>= (λ x. b >>= (λ y. Some (record { x = x; y = y })))) ≡ Some n
+    → (a ≡ Some n.x) × (b ≡ Some n.y)
 joined None b n e = absurd (cc)
 joined (Some x) None n e = absurd (cc)
 joined (Some x) (Some y) n e =
@@ -80,7 +84,8 @@ less_ahead p n d h e = by_x (int_eq d.x (pos 0)) refl
     both : (moved 60 p.x d.x ≡ Some n.x) × (moved 25 p.y d.y ≡ Some n.y)
     both = joined (moved 60 p.x d.x) (moved 25 p.y d.y) n e
 
-    by_x : (b : Bool) → int_eq d.x (pos 0) ≡ b → cond b (room_on 25 n.y d.y) (room_on 60 n.x d.x) < cond b (room_on 25 p.y d.y) (room_on 60 p.x d.x)
+    by_x : (b : Bool) → int_eq d.x (pos 0) ≡ b
+        → cond b (room_on 25 n.y d.y) (room_on 60 n.x d.x) < cond b (room_on 25 p.y d.y) (room_on 60 p.x d.x)
     by_x true x =
         let rest : int_eq d.y (pos 0) ≡ false = sym (ap (λ b. b && int_eq d.y (pos 0)) x) ∙ h in
         less_on 25 p.y d.y n.y both.1 rest
@@ -116,7 +121,8 @@ enough zero p d s h e = by_place (ahead p d) refl
     by_place (Some n) x = let less = less_ahead p n d e x in absurd (omega arith)
 enough (suc k) p d s h e = by_place (ahead p d) refl (λ n x. enough k n d s (let less = less_ahead p n d e x in omega arith) e)
   where
-    by_place : (o : Option Place) → ahead p d ≡ o → ((n : Place) → ahead p d ≡ Some n → pushed_by k n d s ≡ pushed_by (suc k) n d s) → pushed_by (suc k) p d s ≡ pushed_by (suc (suc k)) p d s
+    by_place : (o : Option Place) → ahead p d ≡ o → ((n : Place) → ahead p d ≡ Some n → pushed_by k n d s ≡ pushed_by (suc k) n d s)
+        → pushed_by (suc k) p d s ≡ pushed_by (suc (suc k)) p d s
     by_place None x further = rw x refl
     by_place (Some n) x further = let same = further n x in rw (x, same) refl
 

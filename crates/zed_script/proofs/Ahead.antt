@@ -29,7 +29,8 @@ line_moves : (p : List ℕ) (at : ℕ) → at < length p → (at < line_after p 
 unfolding line_after line_end
 line_moves p at h = by_place (nat_lt (line_end p at) (length p)) refl
   where
-    by_place : (b : Bool) → nat_lt (line_end p at) (length p) ≡ b → (at < cond b (line_end p at + 1) (line_end p at)) × (cond b (line_end p at + 1) (line_end p at) ≤ length p)
+    by_place : (b : Bool) → nat_lt (line_end p at) (length p) ≡ b
+        → (at < cond b (line_end p at + 1) (line_end p at)) × (cond b (line_end p at + 1) (line_end p at) ≤ length p)
     by_place true e =
         let after = run_end_after Line p at in
         let less = ltb-true (line_end p at) (length p) e in

@@ -11,7 +11,9 @@ Built {A = A} make At b end = (a : A) × ((b ≡ make a) × At a end)
 abbrev pub Alone : {B : Type 0} → B → ℕ → B → ℕ → Type 0
 Alone c at b end = (b ≡ c) × (end ≡ at)
 
-pub built_one : {A B : Type 0} (make : A → B) (At : A → ℕ → Type 0) → ((a e : A) (m n : ℕ) → At a m → At e n → (a ≡ e) × (m ≡ n)) → (b d : B) (m n : ℕ) → Built make At b m → Built make At d n → (b ≡ d) × (m ≡ n)
+pub built_one : {A B : Type 0} (make : A → B) (At : A → ℕ → Type 0) → ((a e : A) (m n : ℕ) → At a m → At e n → (a ≡ e) × (m ≡ n))
+    → (b d : B) (m n : ℕ) → Built make At b m → Built make At d n
+    → (b ≡ d) × (m ≡ n)
 built_one make At one b d m n x y =
     let same = one x.0 y.0 m n x.1.1 y.1.1 in
     (x.1.0 ∙ (ap make same.0 ∙ sym y.1.0), same.1)

@@ -7,7 +7,8 @@ use Rattle.zed_script.specs.Command.{BehindThen, is_then, passed}
 use Rattle.zed_script.proofs.TextLemmas.{empty_word}
 
 -- whether a word that was read is THEN
-pub then_read : (p w : List ℕ) (from : ℕ) (said b : Bool) → w ≡ word_at p from → said ≡ bytes_eq w (codes "THEN") → said ≡ b → is_then p from ≡ b
+pub then_read : (p w : List ℕ) (from : ℕ) (said b : Bool) → w ≡ word_at p from → said ≡ bytes_eq w (codes "THEN") → said ≡ b
+    → is_then p from ≡ b
 then_read p w from said b is says which = ap (λ x. bytes_eq x (codes "THEN")) (sym is) ∙ sym says ∙ which
 
 -- behind THEN the program goes on

@@ -98,7 +98,8 @@ then_there zero p at h = by_then (is_then p at) refl
         absurd (omega arith)
 then_there (suc k) p at h = by_then (is_then p at) refl (then_there k p (word_end p at))
   where
-    by_then : (b : Bool) → is_then p at ≡ b → (length p ≤ word_end p at + k → (from : ℕ) × BehindThen p (word_end p at) from) → (from : ℕ) × BehindThen p at from
+    by_then : (b : Bool) → is_then p at ≡ b → (length p ≤ word_end p at + k → (from : ℕ) × BehindThen p (word_end p at) from)
+        → (from : ℕ) × BehindThen p at from
     by_then false e further = (at, there at e)
     by_then true e further =
         let moves = then_moves p at e in
@@ -111,7 +112,8 @@ command_there p at =
     let behind = then_there (length p) p at (omega arith) in
     from_word behind.0 behind.1 (word_at p behind.0) refl
   where
-    from_word : (from : ℕ) → BehindThen p at from → (w : List ℕ) → word_at p from ≡ w → (c : Option OopCommand) × ((end : ℕ) × CommandAt p at c end)
+    from_word : (from : ℕ) → BehindThen p at from → (w : List ℕ) → word_at p from ≡ w
+        → (c : Option OopCommand) × ((end : ℕ) × CommandAt p at c end)
     from_word from behind [] e = (None, (word_end p from, (from, (behind, e, refl))))
     from_word from behind (b ∷ w) e =
         let found = command_behind_there p (word_at p from) (word_end p from) in

@@ -31,7 +31,9 @@ pub last_test : (p : List ℕ) (at : ℕ) (o : Option Test) (t : Test) (e : ℕ)
 last_test p at o t e w h = plain at t e (let P : Option Test → Type 0 = λ x. PartAt p at x e in subst P h w)
 
 -- before a condition stands a NOT
-pub first_not : (p : List ℕ) (at : ℕ) (o : Option Test) (m : ℕ) (b : Bool) (t : Test) (e : ℕ) → PartAt p at o m → o ≡ None → ConditionAt p m b t e → ConditionAt p at (not b) t e
+pub first_not : (p : List ℕ) (at : ℕ) (o : Option Test) (m : ℕ) (b : Bool) (t : Test) (e : ℕ) → PartAt p at o m → o ≡ None
+    → ConditionAt p m b t e
+    → ConditionAt p at (not b) t e
 first_not p at o m b t e w h rest = negation at b t m e (let P : Option Test → Type 0 = λ x. PartAt p at x m in subst P h w) rest
 
 pub flipped_not : (a b : Bool) → flipped a (not b) ≡ flipped (not a) b
@@ -45,7 +47,10 @@ flipped_false true = refl
 flipped_false false = refl
 
 -- behind NOTs a test that takes memory
-pub test_takes : (p : List ℕ) (at to : ℕ) (negated : Bool) → ((b : Bool) (t : Test) (e : ℕ) → ConditionAt p to b t e → ConditionAt p at (flipped negated b) t e) → TestTakes p (word_at p to) (word_end p to) → QueryTakes p at
+pub test_takes : (p : List ℕ) (at to : ℕ) (negated : Bool)
+    → ((b : Bool) (t : Test) (e : ℕ) → ConditionAt p to b t e → ConditionAt p at (flipped negated b) t e)
+    → TestTakes p (word_at p to) (word_end p to)
+    → QueryTakes p at
 test_takes p at to negated so_far (t, (end, (stands, keeps))) =
     let make : Bool → Test → Query = λ b u. record { negated = b; test = u } in
     (make (flipped negated false) t, (end, (so_far false t end (plain to t end stands), keeps)))

@@ -22,16 +22,21 @@ turning_moves p at t e = by_place (nat_lt at (word_end p at)) refl
         absurd (cc)
 
 -- a word that doesn't turn is the last
-pub last_piece : (p : List ℕ) (at : ℕ) (o : Option Turning) (c : Option Course) (e : ℕ) → IsPiece p at o c e → o ≡ None → HeadingAt p at [] c e
+pub last_piece : (p : List ℕ) (at : ℕ) (o : Option Turning) (c : Option Course) (e : ℕ) → IsPiece p at o c e → o ≡ None
+    → HeadingAt p at [] c e
 last_piece p at o c e w h = (w.turns ∙ h, sym w.leads, sym w.ends)
 
 -- before a direction stands a word that turns it
-pub first_piece : (p : List ℕ) (at : ℕ) (o : Option Turning) (t : Turning) (d : Option Course) (m : ℕ) (ts : List Turning) (c : Option Course) (e : ℕ) → IsPiece p at o d m → o ≡ Some t → HeadingAt p m ts c e → HeadingAt p at (t ∷ ts) c e
+pub first_piece : (p : List ℕ) (at : ℕ) (o : Option Turning) (t : Turning) (d : Option Course) (m : ℕ) (ts : List Turning) (c : Option Course) (e : ℕ)
+    → IsPiece p at o d m → o ≡ Some t → HeadingAt p m ts c e
+    → HeadingAt p at (t ∷ ts) c e
 first_piece p at o t d m ts c e w h rest = (w.turns ∙ h, (let P : ℕ → Type 0 = λ n. HeadingAt p n ts c e in subst P (sym w.ends) rest))
 
-pub piece_moves : (p : List ℕ) (at : ℕ) (o : Option Turning) (t : Turning) (d : Option Course) (m : ℕ) → IsPiece p at o d m → o ≡ Some t → at < m
+pub piece_moves : (p : List ℕ) (at : ℕ) (o : Option Turning) (t : Turning) (d : Option Course) (m : ℕ) → IsPiece p at o d m → o ≡ Some t
+    → at < m
 piece_moves p at o t d m w h = let n = turning_moves p at t (w.turns ∙ h) in let e = w.ends in omega arith
 
 -- a piece that turns is a word that does
-pub piece_turns : (p : List ℕ) (at : ℕ) (o : Option Turning) (t : Turning) (d : Option Course) (m : ℕ) → IsPiece p at o d m → o ≡ Some t → turning_of (word_at p at) ≡ Some t
+pub piece_turns : (p : List ℕ) (at : ℕ) (o : Option Turning) (t : Turning) (d : Option Course) (m : ℕ) → IsPiece p at o d m → o ≡ Some t
+    → turning_of (word_at p at) ≡ Some t
 piece_turns p at o t d m w h = w.turns ∙ h

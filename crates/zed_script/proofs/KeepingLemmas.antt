@@ -39,7 +39,9 @@ naming_takes p w NameBecome at said takes = absurd takes
 naming_takes p w NameChange at said takes = absurd takes
 
 -- a word that is no command
-pub other_takes : (p w : List ℕ) (at : ℕ) → is_deed (upper w) ≡ false → is_naming (upper w) ≡ false → is_bare (upper w) ≡ false → 0 < length w → BehindTakes p (upper w) at
+pub other_takes : (p w : List ℕ) (at : ℕ) → is_deed (upper w) ≡ false → is_naming (upper w) ≡ false → is_bare (upper w) ≡ false
+    → 0 < length w
+    → BehindTakes p (upper w) at
 other_takes p w at deed naming bare named =
     let long = length-map w to_ascii_uppercase in
     let keeps : 0 < length (upper w) = omega arith in

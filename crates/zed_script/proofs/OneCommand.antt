@@ -33,7 +33,8 @@ aim_one p at a b m n x y =
     let path : make a.0 a.1 ≡ make b.0 b.1 = rw (first.0, second.0) refl in
     (path, second.1)
 
-exchange_one : (p : List ℕ) (at : ℕ) (a b : Option TileKind × Option TileKind) (m n : ℕ) → ExchangeAt p at a m → ExchangeAt p at b n → (a ≡ b) × (m ≡ n)
+exchange_one : (p : List ℕ) (at : ℕ) (a b : Option TileKind × Option TileKind) (m n : ℕ) → ExchangeAt p at a m → ExchangeAt p at b n
+    → (a ≡ b) × (m ≡ n)
 exchange_one p at a b m n x y =
     let first = kind_one p at false a.0 b.0 x.0 y.0 x.1.0 y.1.0 in
     let P : ℕ → Type 0 = λ k. KindAt p k b.1 n in
@@ -277,7 +278,8 @@ seen p w at Nothing end x = by_word x.0
     by_word (inr e) = let P : Verb → Type 0 = λ u. Seen p at w u Nothing end in subst P (sym (ap verb e ∙ is_throwstar)) (refl, x.1)
 seen p w at (Other n) end x = let P : Verb → Type 0 = λ u. Seen p at w u (Other n) end in subst P (sym (other_verb w x.0)) (ap Other x.1, x.2)
 
-seen_one : (p : List ℕ) (at : ℕ) (w : List ℕ) (v : Verb) (c d : OopCommand) (m n : ℕ) → Seen p at w v c m → Seen p at w v d n → (c ≡ d) × (m ≡ n)
+seen_one : (p : List ℕ) (at : ℕ) (w : List ℕ) (v : Verb) (c d : OopCommand) (m n : ℕ) → Seen p at w v c m → Seen p at w v d n
+    → (c ≡ d) × (m ≡ n)
 unfolding Seen
 seen_one p at w VerbGo = built_one Go (DirectionAt p at) (direction_one p at)
 seen_one p at w VerbTry = built_one Try (DirectionAt p at) (direction_one p at)
@@ -308,7 +310,8 @@ seen_one p at w VerbNothing = alone_one Nothing at
 seen_one p at w VerbOther = alone_one (Other w) at
 
 -- behind a word stands at most one command
-pub command_behind_one : (p w : List ℕ) (at : ℕ) (c d : OopCommand) (m n : ℕ) → CommandBehind p w at c m → CommandBehind p w at d n → (c ≡ d) × (m ≡ n)
+pub command_behind_one : (p w : List ℕ) (at : ℕ) (c d : OopCommand) (m n : ℕ) → CommandBehind p w at c m → CommandBehind p w at d n
+    → (c ≡ d) × (m ≡ n)
 command_behind_one p w at c d m n x y = seen_one p at w (verb w) c d m n (seen p w at c m x) (seen p w at d n y)
 
 true_is_false : (b : Bool) → b ≡ true → b ≡ false → ⊥

@@ -41,7 +41,9 @@ unfolding asked
 flag_asked w e = ap (λ b. cond b (asked_by w) AsksFlag) e
 
 -- a kind of which ANY asks
-pub kind_one : (p : List ℕ) (at : ℕ) (player : Bool) (k j : Option TileKind) (m n : ℕ) → kind_at p at player ≡ (k, m) → kind_at p at player ≡ (j, n) → (k ≡ j) × (m ≡ n)
+pub kind_one : (p : List ℕ) (at : ℕ) (player : Bool) (k j : Option TileKind) (m n : ℕ) → kind_at p at player ≡ (k, m)
+    → kind_at p at player ≡ (j, n)
+    → (k ≡ j) × (m ≡ n)
 kind_one p at player k j m n x y =
     let same : (k, m) ≡ (j, n) = sym x ∙ y in
     (ap (λ r. r.0) same, ap (λ r. r.1) same)
@@ -66,7 +68,8 @@ seen p w at (Some (Any k)) end x = let P : Asked → Type 0 = λ a. Seen p at w 
 seen p w at (Some Energized) end x = let P : Asked → Type 0 = λ a. Seen p at w a (Some Energized) end in subst P (sym (ap asked x.0)) (refl, x.1)
 seen p w at (Some (Flag f)) end x = let P : Asked → Type 0 = λ a. Seen p at w a (Some (Flag f)) end in subst P (sym (flag_asked w x.0)) (ap (λ v. Some (Flag v)) x.1, x.2)
 
-seen_one : (p : List ℕ) (at : ℕ) (w : List ℕ) (a : Asked) (o q : Option Test) (m n : ℕ) → Seen p at w a o m → Seen p at w a q n → (o ≡ q) × (m ≡ n)
+seen_one : (p : List ℕ) (at : ℕ) (w : List ℕ) (a : Asked) (o q : Option Test) (m n : ℕ) → Seen p at w a o m → Seen p at w a q n
+    → (o ≡ q) × (m ≡ n)
 unfolding Seen
 seen_one p at w AsksNot = alone_one None at
 seen_one p at w AsksAligned = alone_one (Some Aligned) at
@@ -96,7 +99,9 @@ opened p at b t end (plain a u e w) = inl (refl, w)
 opened p at b t end (negation a r u mid e w rest) = inr (r, (mid, (refl, (w, rest))))
 
 -- at most one condition stands at a place
-pub condition_one : (p : List ℕ) (at : ℕ) (b : Bool) (t : Test) (m : ℕ) → ConditionAt p at b t m → (d : Bool) (u : Test) (n : ℕ) → ConditionAt p at d u n → (b ≡ d) × (t ≡ u) × (m ≡ n)
+pub condition_one : (p : List ℕ) (at : ℕ) (b : Bool) (t : Test) (m : ℕ) → ConditionAt p at b t m → (d : Bool) (u : Test) (n : ℕ)
+    → ConditionAt p at d u n
+    → (b ≡ d) × (t ≡ u) × (m ≡ n)
 unfolding Opened
 condition_one p at b t m (plain a s e w) d u n y = from_test (opened p a d u n y)
   where
@@ -109,7 +114,8 @@ condition_one p at b t m (plain a s e w) d u n y = from_test (opened p a d u n y
     from_test (inr z) = absurd (test_is_not s (part_one p a None (Some s) z.1.0 e z.1.1.1.0 w).0)
 condition_one p at b t m (negation a r s mid e w rest) d u n y = from_not (opened p a d u n y) (condition_one p mid r s e rest)
   where
-    from_not : Opened p a d u n → ((d : Bool) (u : Test) (n : ℕ) → ConditionAt p mid d u n → (r ≡ d) × (s ≡ u) × (e ≡ n)) → (not r ≡ d) × (s ≡ u) × (e ≡ n)
+    from_not : Opened p a d u n → ((d : Bool) (u : Test) (n : ℕ) → ConditionAt p mid d u n → (r ≡ d) × (s ≡ u) × (e ≡ n))
+        → (not r ≡ d) × (s ≡ u) × (e ≡ n)
     from_not (inl z) further = absurd (test_is_not u (part_one p a None (Some u) mid n w z.1).0)
     from_not (inr z) further =
         let at_one = part_one p a None None mid z.1.0 w z.1.1.1.0 in
@@ -162,7 +168,9 @@ condition_there zero p at h = by_part (part_there p at)
         absurd (omega arith)
 condition_there (suc k) p at h = by_part (part_there p at) (condition_there k p (word_end p at))
   where
-    by_part : (o : Option Test) × ((end : ℕ) × PartAt p at o end) → (length p ≤ word_end p at + k → (b : Bool) × ((t : Test) × ((end : ℕ) × ConditionAt p (word_end p at) b t end))) → (b : Bool) × ((t : Test) × ((end : ℕ) × ConditionAt p at b t end))
+    by_part : (o : Option Test) × ((end : ℕ) × PartAt p at o end)
+        → (length p ≤ word_end p at + k → (b : Bool) × ((t : Test) × ((end : ℕ) × ConditionAt p (word_end p at) b t end)))
+        → (b : Bool) × ((t : Test) × ((end : ℕ) × ConditionAt p at b t end))
     by_part (Some t, (m, w)) further = (false, (t, (m, plain at t m w)))
     by_part (None, (m, w)) further =
         let moves = not_moves p at None m w refl in

@@ -12,7 +12,9 @@ none_is_some : {A : Type 0} (a : A) → None ≡ Some a → ⊥
 none_is_some a e = absurd (cc)
 
 -- the words that turn are the same, and so is what follows them
-pub heading_one : (p : List ℕ) (at : ℕ) (ts us : List Turning) (c d : Option Course) (m n : ℕ) → HeadingAt p at ts c m → HeadingAt p at us d n → (ts ≡ us) × (c ≡ d) × (m ≡ n)
+pub heading_one : (p : List ℕ) (at : ℕ) (ts us : List Turning) (c d : Option Course) (m n : ℕ) → HeadingAt p at ts c m
+    → HeadingAt p at us d n
+    → (ts ≡ us) × (c ≡ d) × (m ≡ n)
 heading_one p at [] [] c d m n x y = (refl, x.1 ∙ sym y.1, x.2 ∙ sym y.2)
 heading_one p at [] (u ∷ us) c d m n x y = absurd (none_is_some u (sym x.0 ∙ y.0))
 heading_one p at (t ∷ ts) [] c d m n x y = absurd (none_is_some t (sym y.0 ∙ x.0))
@@ -32,10 +34,12 @@ direction_one p at h g m n x y =
     (path, one.2)
 
 -- a direction stands at each place, known or not
-heading_there : (k : ℕ) (p : List ℕ) (at : ℕ) → length p ≤ at + k → (ts : List Turning) × ((c : Option Course) × ((end : ℕ) × HeadingAt p at ts c end))
+heading_there : (k : ℕ) (p : List ℕ) (at : ℕ) → length p ≤ at + k
+    → (ts : List Turning) × ((c : Option Course) × ((end : ℕ) × HeadingAt p at ts c end))
 heading_there zero p at h = by_turning (turning_of (word_at p at)) refl
   where
-    by_turning : (o : Option Turning) → turning_of (word_at p at) ≡ o → (ts : List Turning) × ((c : Option Course) × ((end : ℕ) × HeadingAt p at ts c end))
+    by_turning : (o : Option Turning) → turning_of (word_at p at) ≡ o
+        → (ts : List Turning) × ((c : Option Course) × ((end : ℕ) × HeadingAt p at ts c end))
     by_turning None e = ([], (course_of (word_at p at), (word_end p at, (e, refl, refl))))
     by_turning (Some t) e =
         let moves = turning_moves p at t e in
@@ -43,7 +47,9 @@ heading_there zero p at h = by_turning (turning_of (word_at p at)) refl
         absurd (omega arith)
 heading_there (suc k) p at h = by_turning (turning_of (word_at p at)) refl (heading_there k p (word_end p at))
   where
-    by_turning : (o : Option Turning) → turning_of (word_at p at) ≡ o → (length p ≤ word_end p at + k → (ts : List Turning) × ((c : Option Course) × ((end : ℕ) × HeadingAt p (word_end p at) ts c end))) → (ts : List Turning) × ((c : Option Course) × ((end : ℕ) × HeadingAt p at ts c end))
+    by_turning : (o : Option Turning) → turning_of (word_at p at) ≡ o
+        → (length p ≤ word_end p at + k → (ts : List Turning) × ((c : Option Course) × ((end : ℕ) × HeadingAt p (word_end p at) ts c end)))
+        → (ts : List Turning) × ((c : Option Course) × ((end : ℕ) × HeadingAt p at ts c end))
     by_turning None e further = ([], (course_of (word_at p at), (word_end p at, (e, refl, refl))))
     by_turning (Some t) e further =
         let moves = turning_moves p at t e in
@@ -67,7 +73,9 @@ turned_there p at t e = by_turns (direction_there p at)
     by_turns (h, (end, stands)) = (h, (end, (stands, by_list h.turns h.course end stands)))
 
 -- the same behind other words that turn
-pub turned_on : (p : List ℕ) (at to : ℕ) (ts : List Turning) (t : Turning) → turning_of (word_at p to) ≡ Some t → ((us : List Turning) (c : Option Course) (end : ℕ) → HeadingAt p to us c end → HeadingAt p at (ts ++ us) c end) → DirectionTakes p at
+pub turned_on : (p : List ℕ) (at to : ℕ) (ts : List Turning) (t : Turning) → turning_of (word_at p to) ≡ Some t
+    → ((us : List Turning) (c : Option Course) (end : ℕ) → HeadingAt p to us c end → HeadingAt p at (ts ++ us) c end)
+    → DirectionTakes p at
 turned_on p at to ts t e so_far = by_rest (turned_there p to t e)
   where
     by_rest : DirectionTakes p to → DirectionTakes p at

@@ -41,14 +41,17 @@ seen_one p at CommandKind = alone_one Command (at + 1)
 seen_one p at MessageKind = alone_one (Message (line_text p at)) (line_after p at)
 
 -- at most one instruction stands at a place
-pub instruction_one : (p : List ℕ) (at : ℕ) (i j : Instruction) (m n : ℕ) → InstructionAt p at i m → InstructionAt p at j n → (i ≡ j) × (m ≡ n)
+pub instruction_one : (p : List ℕ) (at : ℕ) (i j : Instruction) (m n : ℕ) → InstructionAt p at i m → InstructionAt p at j n
+    → (i ≡ j) × (m ≡ n)
 instruction_one p at i j m n x y = seen_one p at (begun_at p at) i j m n (seen p at i m x) (seen p at j n y)
 
 -- an instruction stands at each place
-pub instruction_there : (p : List ℕ) (at : ℕ) → (i : Instruction) × ((next : ℕ) × (InstructionAt p at i next × (begun_at p at ≡ line_kind i)))
+pub instruction_there : (p : List ℕ) (at : ℕ)
+    → (i : Instruction) × ((next : ℕ) × (InstructionAt p at i next × (begun_at p at ≡ line_kind i)))
 instruction_there p at = by_kind (begun_at p at) refl
   where
-    by_kind : (k : LineKind) → begun_at p at ≡ k → (i : Instruction) × ((next : ℕ) × (InstructionAt p at i next × (begun_at p at ≡ line_kind i)))
+    by_kind : (k : LineKind) → begun_at p at ≡ k
+        → (i : Instruction) × ((next : ℕ) × (InstructionAt p at i next × (begun_at p at ≡ line_kind i)))
     by_kind EndKind e = (End, (at, ((e, refl), e)))
     by_kind SkippedKind e = (Skipped, (line_after p at, ((e, refl), e)))
     by_kind BlankKind e = (Blank, (at + 1, ((e, refl), e)))

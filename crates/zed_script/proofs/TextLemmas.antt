@@ -31,12 +31,15 @@ number_grows n [] = omega arith
 number_grows n (d ∷ ds) = let h = number_grows (n * 10 + (d - 48)) ds in omega arith
 
 -- a digit more, where the number is cut to 32,767 in the end
-pub number_more : (n : ℕ) (ds : List ℕ) (i : ℕ) → i < length ds → min (number (with_digit n (get_or ds i 0)) (drop (i + 1) ds)) 32767 ≡ min (number n (drop i ds)) 32767
+pub number_more : (n : ℕ) (ds : List ℕ) (i : ℕ) → i < length ds
+    → min (number (with_digit n (get_or ds i 0)) (drop (i + 1) ds)) 32767 ≡ min (number n (drop i ds)) 32767
 number_more n ds i h =
     rw (add-one, drop-cons ds i 0)
     (by_size (nat_lt 3276 n) refl)
   where
-    by_size : (b : Bool) → nat_lt 3276 n ≡ b → min (number (cond b 32767 (n * 10 + (get_or ds i 0 - 48))) (drop (suc i) ds)) 32767 ≡ min (number (n * 10 + (get_or ds i 0 - 48)) (drop (suc i) ds)) 32767
+    by_size : (b : Bool) → nat_lt 3276 n ≡ b
+        → min (number (cond b 32767 (n * 10 + (get_or ds i 0 - 48))) (drop (suc i) ds)) 32767
+        ≡ min (number (n * 10 + (get_or ds i 0 - 48)) (drop (suc i) ds)) 32767
     by_size false e = refl
     by_size true e =
         let a = number_grows 32767 (drop (suc i) ds) in

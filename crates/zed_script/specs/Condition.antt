@@ -35,7 +35,8 @@ PartAt p at part end = PartBehind p (word_at p at) (word_end p at) part end
 -- a condition stands at a place and ends before another
 pub data ConditionAt (p : List ℕ) : ℕ → Bool → Test → ℕ → Type 0 where
   plain : (at : ℕ) (t : Test) (end : ℕ) → PartAt p at (Some t) end → ConditionAt p at false t end
-  negation : (at : ℕ) (negated : Bool) (t : Test) (mid end : ℕ) → PartAt p at None mid → ConditionAt p mid negated t end → ConditionAt p at (not negated) t end
+  negation : (at : ℕ) (negated : Bool) (t : Test) (mid end : ℕ) → PartAt p at None mid → ConditionAt p mid negated t end
+      → ConditionAt p at (not negated) t end
 
 -- a truth, turned where there is one NOT more or an odd number of them
 abbrev pub flipped : Bool → Bool → Bool

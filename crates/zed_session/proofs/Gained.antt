@@ -29,11 +29,16 @@ delivered P d [] r left old new h = subst (AllByRecursion P) (sym h.1) old
 delivered P d (e ∷ es) r left old new (inl h) = delivered P (after_edit e d) es r left (each-with_edit P e d.edits new.0 old) new.1 h.2
 delivered P d (e ∷ es) r left old new (inr h) = subst (AllByRecursion P) (sym h.3) old
 
-all_delivered : (P : Edit → Type 0) (d : Replica) (es left : List Edit) → AllByRecursion P d.edits → AllByRecursion P es → AllDelivered d es left → AllByRecursion P left
+all_delivered : (P : Edit → Type 0) (d : Replica) (es left : List Edit) → AllByRecursion P d.edits → AllByRecursion P es
+    → AllDelivered d es left
+    → AllByRecursion P left
 all_delivered P d es left old new h = delivered P d es (Ok tt) left old new h
 
-stopped : (P : Edit → Type 0) (d : Replica) (es left : List Edit) → AllByRecursion P d.edits → AllByRecursion P es → StopsForMemory d es left → AllByRecursion P left
-stopped P d es left old new (front, e, rest, is, all, may) = all_delivered P d front left old (of_front P front (e ∷ rest) (subst (AllByRecursion P) is new)) all
+stopped : (P : Edit → Type 0) (d : Replica) (es left : List Edit) → AllByRecursion P d.edits → AllByRecursion P es
+    → StopsForMemory d es left
+    → AllByRecursion P left
+stopped P d es left old new (front, e, rest, is, all, may) =
+    all_delivered P d front left old (of_front P front (e ∷ rest) (subst (AllByRecursion P) is new)) all
 
 -- the same after a pull
 left_by : (P : Edit → Type 0) (d : Replica) (bytes : List ℕ) (es : List Edit) (p : Progress) (r : Result Pulled LinkError) (left : List Edit)
@@ -61,7 +66,8 @@ all_in : (P : Edit → Type 0) (es : List Edit) → ((e : Edit) → Contains es 
 all_in P es h = all_from P es (λ e m. h e (Member-to e es m))
 
 -- an edit was there before a call, or is of those that were spelled in it
-whence : (spelled : List Edit) (d e : Replica) → Calls spelled d e → (f : Edit) → Contains e.edits f → Contains d.edits f ⊎ Contains spelled f
+whence : (spelled : List Edit) (d e : Replica) → Calls spelled d e → (f : Edit) → Contains e.edits f
+    → Contains d.edits f ⊎ Contains spelled f
 whence spelled d e (inl stays) f has = inl (subst (λ es. Contains es f) stays.1 has)
 whence spelled d e (inr is) f has =
     let P : Edit → Type 0 = λ x. Contains d.edits x ⊎ Contains spelled x in

@@ -64,7 +64,8 @@ of_world limit p =
     either (title_refusal p) _ (on_false _ _ (λ same. cc)) (either _ _ (on_true _ _ (λ same. cc)) (of_boards limit 0 (exported_boards p)))
 
 -- memory was lacking
-lack_within : (limit : Option ExportError) (w : Contents) (n : ℕ) (told : SessionError) → IsOther limit → told ≡ lack_of (slice_get w.boards n)
+lack_within : (limit : Option ExportError) (w : Contents) (n : ℕ) (told : SessionError) → IsOther limit
+    → told ≡ lack_of (slice_get w.boards n)
     → Exports {X = Contents} (λ x. x) (unless_over limit w) (Err export.Memory) → GivesWorld (unless_over limit w) n (Err told)
 lack_within None w n told other is same = is
 lack_within (Some e) w n told other is same = absurd (other (cc))
@@ -73,6 +74,7 @@ pub lack_given : (limit : ℕ) (p : Plain) (n : ℕ) (told : SessionError) → t
     → Exports {X = Contents} (λ x. x) (exported limit p) (Err export.Memory) → GivesWorld (exported limit p) n (Err told)
 lack_given limit p n told is same = lack_within (refusal_of limit p) (world_of p) n told (of_world limit p) is same
 
-pub lack_shown : (limit : ℕ) (d : Replica) (n : ℕ) (told : SessionError) → d.is_stale ≡ false → told ≡ lack_of (slice_get (exported_boards (replay d.edits)) n)
+pub lack_shown : (limit : ℕ) (d : Replica) (n : ℕ) (told : SessionError) → d.is_stale ≡ false
+    → told ≡ lack_of (slice_get (exported_boards (replay d.edits)) n)
     → Exports {X = Contents} (λ x. x) (world_shown limit d) (Err export.Memory) → GivesWorld (world_shown limit d) n (Err told)
 lack_shown limit d n told sound is same = rw sound (lack_given limit (replay d.edits) n told is (rw sound at same))

@@ -25,7 +25,8 @@ gone_at f R xs i old new gone y within is out h =
     rw (get_or-map f xs i old y within, ← is, same) h
 
 -- where the new element shows what the old one did, all show what they did
-pub shown_same : {X Y : Type 0} (f : X → Y) (xs : List X) (i : ℕ) (old new : X) → old ≡ get_or xs i old → f new ≡ f old → map f (set xs i new) ≡ map f xs
+pub shown_same : {X Y : Type 0} (f : X → Y) (xs : List X) (i : ℕ) (old new : X) → old ≡ get_or xs i old → f new ≡ f old
+    → map f (set xs i new) ≡ map f xs
 shown_same f xs i old new is same = map-set_same f xs i new old (same ∙ ap f is)
 
 -- without the new element they are what they were without the old one

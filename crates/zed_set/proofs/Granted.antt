@@ -32,8 +32,10 @@ pub wish_done : (replica : ℕ) (w : Wish) (d new : Replica) → d.is_stale ≡ 
 wish_done replica w d new sound world acts = (d, has_own d sound, (Ok new.edits, acts, ap (λ w. Ok (w, new.edits)) world))
 
 -- the wish was refused
-pub wish_refused : (replica : ℕ) (w : Wish) (d : Replica) (e : ActionError) (told : Refusal) (result : Result (Unit {0}) ActionError) → d.is_stale ≡ false
-    → result ≡ Err e → told ≡ action_refusal e → (e ≡ no_memory) ⊎ Sets d replica w (Err e) → (result ≡ Err no_memory → WishMayTake d replica w)
+pub wish_refused : (replica : ℕ) (w : Wish) (d : Replica) (e : ActionError) (told : Refusal) (result : Result (Unit {0}) ActionError)
+    → d.is_stale ≡ false
+    → result ≡ Err e → told ≡ action_refusal e → (e ≡ no_memory) ⊎ Sets d replica w (Err e)
+    → (result ≡ Err no_memory → WishMayTake d replica w)
     → ((told ≡ Memory) × WishMayTake d replica w) ⊎ IsDone replica w (Ok (d.world, d.edits)) (Err told)
 wish_refused replica w d e told result sound at said why takes =
     elim why [
@@ -47,10 +49,12 @@ IsDoneOn replica w d result = MatchResult result
     (λ x. IsDone replica w (Ok (d.world, d.edits)) (Ok (x.world, x.edits)))
     (λ e. ((e ≡ Memory) × WishMayTake d replica w) ⊎ IsDone replica w (Ok (d.world, d.edits)) (Err e))
 
-pub granted_so : (failed : Type 0) (t : HostContents) (file : List ℕ) (replica : ℕ) (w : Wish) (d : Replica) (result : Result Replica Refusal) → replica ≢ 0 → OpensAs failed t None file (Ok (d.world, d.edits))
+pub granted_so : (failed : Type 0) (t : HostContents) (file : List ℕ) (replica : ℕ) (w : Wish) (d : Replica) (result : Result Replica Refusal)
+    → replica ≢ 0 → OpensAs failed t None file (Ok (d.world, d.edits))
     → IsDoneOn replica w d result
     → MatchResult result (λ x. IsSet failed t file replica w (Ok (x.world, x.edits))) (λ e. (e ≡ Memory) ⊎ IsSet failed t file replica w (Err e))
-granted_so failed t file replica w d (Ok x) some is acts = granted_by failed t file replica w (Ok (x.world, x.edits)) (Ok (d.world, d.edits)) some is acts
+granted_so failed t file replica w d (Ok x) some is acts =
+    granted_by failed t file replica w (Ok (x.world, x.edits)) (Ok (d.world, d.edits)) some is acts
 granted_so failed t file replica w d (Err e) some is acts = elim acts [
   | inl lacks ↦ inl lacks.0
   | inr why ↦ inr (granted_by failed t file replica w (Err e) (Ok (d.world, d.edits)) some is why)
@@ -70,7 +74,9 @@ made_so : (P : Refusal → Type 0) (world : ℕ) (made : Made) (e : Refusal) →
 made_so P world (Ok es) e all is = absurd (cc)
 made_so P world (Err x) e all is = let same : e ≡ action_refusal x = cc in subst P (sym same) (all x)
 
-pub done_such : (P : Refusal → Type 0) (replica : ℕ) (w : Wish) (d : Replica) (e : Refusal) → refused_so P → IsDone replica w (Ok (d.world, d.edits)) (Err e) → P e
+pub done_such : (P : Refusal → Type 0) (replica : ℕ) (w : Wish) (d : Replica) (e : Refusal) → refused_so P
+    → IsDone replica w (Ok (d.world, d.edits)) (Err e)
+    → P e
 done_such P replica w d e all is = made_so P d.world is.2.0 e all is.2.2
 
 -- the file was refused
@@ -80,13 +86,18 @@ not_opened failed t file replica w e some why =
     elim why [ inl memory ↦ inl memory | inr is ↦ inr (granted_by failed t file replica w (Err e) (Err e) some is refl) ]
 
 -- where there are no edits, none are written
-pub not_granted : (failed : Type 0) (t : HostContents) (file : List ℕ) (replica : ℕ) (w : Wish) (e : Refusal) → (e ≡ Memory) ⊎ IsSet failed t file replica w (Err e)
+pub not_granted : (failed : Type 0) (t : HostContents) (file : List ℕ) (replica : ℕ) (w : Wish) (e : Refusal)
+    → (e ≡ Memory) ⊎ IsSet failed t file replica w (Err e)
     → (e ≡ Memory) ⊎ ComesToSet failed t file replica w (Err e)
 not_granted failed t file replica w e why = elim why [ inl memory ↦ inl memory | inr is ↦ inr (Err e, is, refl) ]
 
-opened_so : (p q : Type 0) (t : HostContents) (file : List ℕ) (replica : ℕ) (w : Wish) (r : Result FileEdits Refusal) → (p → q) → IsSet p t file replica w r → IsSet q t file replica w r
+opened_so : (p q : Type 0) (t : HostContents) (file : List ℕ) (replica : ℕ) (w : Wish) (r : Result FileEdits Refusal) → (p → q)
+    → IsSet p t file replica w r
+    → IsSet q t file replica w r
 opened_so p q t file zero w r so is = is
 opened_so p q t file (suc n) w r so is = let opens = is.1 in (is.0, (opens.0, read_so p q t file opens.0 so opens.1, opens.2), is.2)
 
-pub set_so : (t : HostContents) (file : List ℕ) (replica : ℕ) (w : Wish) (p q : Type 0) (r : Result Effect Refusal) → (p → q) → ComesToSet p t file replica w r → ComesToSet q t file replica w r
+pub set_so : (t : HostContents) (file : List ℕ) (replica : ℕ) (w : Wish) (p q : Type 0) (r : Result Effect Refusal) → (p → q)
+    → ComesToSet p t file replica w r
+    → ComesToSet q t file replica w r
 set_so t file replica w p q r so is = (is.0, opened_so p q t file replica w is.0 so is.1, is.2)

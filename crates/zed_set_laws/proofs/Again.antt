@@ -101,7 +101,8 @@ no_pieces = None
 in_range : (e : Edit) → Fits e → is_in_range e.op ≡ true
 in_range e fits = ((fit_is_each_part e).0 fits).1
 
-printed_wishes : (op : Op) (pieces : List Piece) → pieces_of op ≡ Some pieces → (e : Edit) → e.op ≡ op → IsSound e → (op_text op ≡ line_of pieces) × WishesOp (map word_of pieces) op
+printed_wishes : (op : Op) (pieces : List Piece) → pieces_of op ≡ Some pieces → (e : Edit) → e.op ≡ op → IsSound e
+    → (op_text op ≡ line_of pieces) × WishesOp (map word_of pieces) op
 printed_wishes (SetHeader s) pieces same e is sound =
     let short : is_header_in_range s ≡ true = sym (ap is_in_range is) ∙ in_range e sound.fits in
     let read = header_is_read s (rw is at sound.sizes) (rw is at sound.bytes) short in
@@ -136,7 +137,8 @@ is_setting (SetStat k s) pieces same = record { plain = refl; own = λ s. refl; 
 is_setting _ pieces same = absurd (let no : no_pieces ≡ just pieces = same in cc)
 
 -- things that are there were made before a stamp that is later than all edits
-all_before : (es : List Edit) (s : Stamp) → AllBelow s es → (ts : List Thing) → list_all (has (replay es)) ts ≡ true → list_all (λ x. before (stamp_of x) s) ts ≡ true
+all_before : (es : List Edit) (s : Stamp) → AllBelow s es → (ts : List Thing) → list_all (has (replay es)) ts ≡ true
+    → list_all (λ x. before (stamp_of x) s) ts ≡ true
 all_before es s below [] there = refl
 all_before es s below (t ∷ ts) there =
     let parts = and_parts (has (replay es) t) (list_all (has (replay es)) ts) there in
@@ -144,7 +146,8 @@ all_before es s below (t ∷ ts) there =
     rw first (all_before es s below ts parts.1)
 
 -- an author's stamp at the next time
-own_stamp : (es : List Edit) (replica : ℕ) (op : Op) → IsSetting op → 1 ≤ replica → is_spent es 1 ≡ false → is_own_stamp op (authored es replica op).stamp ≡ true
+own_stamp : (es : List Edit) (replica : ℕ) (op : Op) → IsSetting op → 1 ≤ replica → is_spent es 1 ≡ false
+    → is_own_stamp op (authored es replica op).stamp ≡ true
 own_stamp es replica op setting author left =
     let last = ltb-false _ _ left in
     let time : (authored es replica op).stamp.time ≡ next_time es = rw setting.plain refl in
@@ -154,7 +157,8 @@ own_stamp es replica op setting author left =
     setting.own (authored es replica op).stamp ∙ and_from _ _ (and_from _ _ low high) own
 
 -- such an edit has no fault
-authored_fits : (es : List Edit) (replica : ℕ) (e : Edit) → IsSetting e.op → Fits e → 1 ≤ replica → is_spent es 1 ≡ false → can (replay es) e ≡ true
+authored_fits : (es : List Edit) (replica : ℕ) (e : Edit) → IsSetting e.op → Fits e → 1 ≤ replica → is_spent es 1 ≡ false
+    → can (replay es) e ≡ true
     → Fits (authored es replica e.op)
 authored_fits es replica e setting fits author left there =
     let new = authored es replica e.op in
@@ -171,12 +175,14 @@ answered d replica e r setting fits can_redo answers =
     let new = authored d.edits replica e.op in
     let late = authored-late d.edits replica e.op setting.plain in
     let fit : fault new ≡ None = authored_fits d.edits replica e setting fits can_redo.author can_redo.left can_redo.there in
-    let unused : edit_with new.stamp d.edits ≡ None = ap (edit_with new.stamp) (sym (append-nil d.edits)) ∙ edit_with-past new.stamp d.edits [] late in
+    let unused : edit_with new.stamp d.edits ≡ None =
+    ap (edit_with new.stamp) (sym (append-nil d.edits)) ∙ edit_with-past new.stamp d.edits [] late in
     let some_left : is_spent_for d.edits e.op ≡ false = rw (setting.plain, can_redo.left) refl in
     rw (can_redo.sound, some_left, fit, can_redo.there, unused) at answers
 
 -- what is shown with it
-shown_with : (d : Replica) (replica : ℕ) (e : Edit) → IsSetting e.op → CanRedo d replica e → replay (one_more d replica e.op) ≡ do_edit (replay d.edits) e
+shown_with : (d : Replica) (replica : ℕ) (e : Edit) → IsSetting e.op → CanRedo d replica e
+    → replay (one_more d replica e.op) ≡ do_edit (replay d.edits) e
 shown_with d replica e setting can_redo =
     let new = authored d.edits replica e.op in
     let there : can (replay d.edits) new ≡ true = can_redo.there in
@@ -185,12 +191,15 @@ shown_with d replica e setting can_redo =
     ∙ setting.still new.stamp e.stamp (replay d.edits)
 
 -- words that wish an op, whichever wish it is that they are read as
-wished : (words : List Word) (op : Op) (w : Wish) → WishesOp words op → wish_of words ≡ Ok w → (d : Replica) (replica : ℕ) (made : Made) → Sets d replica w made → Authors d replica op made
+wished : (words : List Word) (op : Op) (w : Wish) → WishesOp words op → wish_of words ≡ Ok w → (d : Replica) (replica : ℕ) (made : Made)
+    → Sets d replica w made
+    → Authors d replica op made
 wished words op w wishes read d replica made sets =
     let is : wishes.0 ≡ w = cc in
     (wishes.2 d replica made).0 (subst (λ (x : Wish). Sets d replica x made) (sym is) sets)
 
-made_by : (d : Replica) (replica : ℕ) (e : Edit) (made : Made) → IsSetting e.op → Fits e → CanRedo d replica e → Authors d replica e.op made → made ≡ Ok (one_more d replica e.op)
+made_by : (d : Replica) (replica : ℕ) (e : Edit) (made : Made) → IsSetting e.op → Fits e → CanRedo d replica e → Authors d replica e.op made
+    → made ≡ Ok (one_more d replica e.op)
 made_by d replica e made setting fits can_redo authors =
     let answer = answered d replica e authors.0 setting fits can_redo authors.1 in
     authors.2 ∙ ap (told (one_more d replica e.op)) answer

@@ -106,7 +106,8 @@ and_right : (a b : Bool) → (a && b) ≡ true → b ≡ true
 and_right true b h = h
 and_right false b h = absurd cc
 
-pub free_digits : (c : ℕ) → ((x : ℕ) → is_ascii_digit x ≡ true → (x == c) ≡ false) → (w : Word) → list_all is_ascii_digit w ≡ true → Free c w
+pub free_digits : (c : ℕ) → ((x : ℕ) → is_ascii_digit x ≡ true → (x == c) ≡ false) → (w : Word) → list_all is_ascii_digit w ≡ true
+    → Free c w
 free_digits c other [] h = tt
 free_digits c other (x ∷ xs) h = (other x (and_left _ _ h), free_digits c other xs (and_right _ _ h))
 

@@ -63,7 +63,8 @@ not_letters : (w x : Word) → list_all is_letter (map to_ascii_lowercase (w ++ 
 not_letters [] x = refl
 not_letters (c ∷ cs) x = go (is_letter (to_ascii_lowercase c)) (not_letters cs x)
   where
-    go : (b : Bool) → list_all is_letter (map to_ascii_lowercase (cs ++ 40 ∷ x)) ≡ false → (b && list_all is_letter (map to_ascii_lowercase (cs ++ 40 ∷ x))) ≡ false
+    go : (b : Bool) → list_all is_letter (map to_ascii_lowercase (cs ++ 40 ∷ x)) ≡ false
+        → (b && list_all is_letter (map to_ascii_lowercase (cs ++ 40 ∷ x))) ≡ false
     go true rest = rest
     go false rest = refl
 

@@ -80,7 +80,8 @@ header_line (header.CurrentBoard b) = refl
 header_line (header.WorldName s) = refl
 header_line (header.Flag k s) = refl
 
-board_line : (b : BoardId) (s : BoardSetting) → op_text (SetBoard b s) ≡ line_of (Plain (codes "board") ∷ Plain (board_name b) ∷ board_words s)
+board_line : (b : BoardId) (s : BoardSetting)
+    → op_text (SetBoard b s) ≡ line_of (Plain (codes "board") ∷ Plain (board_name b) ∷ board_words s)
 board_line b (board.Byte MaxShots n) = refl
 board_line b (board.Byte StartX n) = refl
 board_line b (board.Byte StartY n) = refl
@@ -165,7 +166,8 @@ not_board n = go (bytes_eq (number n) (codes "board")) refl
         cc)
 
 -- a name isn't `none` (110 at its head)
-not_none : (n : TheName) → IsName n → (A : Type 0) (read : Word → Option A) (x : A) → read (name n) ≡ Some x → unless_none read (name n) ≡ Some (Some x)
+not_none : (n : TheName) → IsName n → (A : Type 0) (read : Word → Option A) (x : A) → read (name n) ≡ Some x
+    → unless_none read (name n) ≡ Some (Some x)
 not_none n fits A read x is = go (bytes_eq (name n) (codes "none")) refl
   where
     go : (b : Bool) → bytes_eq (name n) (codes "none") ≡ b → unless_none read (name n) ≡ Some (Some x)
@@ -175,11 +177,13 @@ not_none n fits A read x is = go (bytes_eq (name n) (codes "none")) refl
 board_found : (b : BoardId) → IsName b.name → board_of (board_name b) ≡ Some (board_place.Named b)
 board_found b fits = rw (name_back b.name fits) refl
 
-exit_found : (b : Option BoardId) → IfSome b (λ x. IsName x.name) → unless_none board_of (optional board_name b) ≡ Some (option_map board_place.Named b)
+exit_found : (b : Option BoardId) → IfSome b (λ x. IsName x.name)
+    → unless_none board_of (optional board_name b) ≡ Some (option_map board_place.Named b)
 exit_found None fits = refl
 exit_found (Some b) fits = not_none b.name fits BoardPlace board_of (board_place.Named b) (board_found b fits)
 
-property_read : (s : BoardSetting) → IsBoardSetting s → TextHasBytes s → is_property_in_range s ≡ true → board_read (map word_of (board_words s)) ≡ Ok (property_wish s)
+property_read : (s : BoardSetting) → IsBoardSetting s → TextHasBytes s → is_property_in_range s ≡ true
+    → board_read (map word_of (board_words s)) ≡ Ok (property_wish s)
 unfolding board_read property_of board_byte board_flag board_title message max_shots time_limit board_rank exit start
 property_read (board.Byte MaxShots n) fits bytes short = rw (number_back 255 n (omega arith)) refl
 property_read (board.Byte StartX n) fits bytes short = rw (number_back 255 n (omega arith)) refl
@@ -198,7 +202,8 @@ property_read (board.Text Message s) fits bytes short = rw (string_back 58 s byt
 property_read (board.Rank n) fits bytes short = rw (number_back 65535 n (omega arith)) refl
 
 board_wish_read : (b : BoardId) (s : BoardSetting) → IsName b.name → IsBoardSetting s → TextHasBytes s → is_property_in_range s ≡ true
-    → wish_of (map word_of (Plain (codes "board") ∷ Plain (board_name b) ∷ board_words s)) ≡ Ok (wish.Board (board_place.Named b) (property_wish s))
+    → wish_of (map word_of (Plain (codes "board") ∷ Plain (board_name b) ∷ board_words s))
+    ≡ Ok (wish.Board (board_place.Named b) (property_wish s))
 unfolding wish_of board_thing
 board_wish_read b s named fits bytes short = rw (name_back b.name named, property_read s fits bytes short) refl
 
@@ -207,7 +212,8 @@ board_wish_read b s named fits bytes short = rw (name_back b.name named, propert
 other_found : (at s : StatId) → IsName s.name → other_of (stat_place.Named at) (stat_name s) ≡ Some (stat_place.Named s)
 other_found at s fits = rw (name_back s.name fits) refl
 
-stat_found : (at : StatId) (s : Option StatId) → IfSome s (λ x. IsName x.name) → unless_none (other_of (stat_place.Named at)) (optional stat_name s) ≡ Some (option_map stat_place.Named s)
+stat_found : (at : StatId) (s : Option StatId) → IfSome s (λ x. IsName x.name)
+    → unless_none (other_of (stat_place.Named at)) (optional stat_name s) ≡ Some (option_map stat_place.Named s)
 stat_found at None fits = refl
 stat_found at (Some s) fits = not_none s.name fits StatPlace (other_of (stat_place.Named at)) (stat_place.Named s) (other_found at s fits)
 
@@ -218,7 +224,8 @@ text_found : (t : Option TextId) → IfSome t (λ x. IsName x.name) → unless_n
 text_found None fits = refl
 text_found (Some t) fits = not_none t.name fits TextId text_of t (a_text t fits)
 
-field_read : (at : StatId) (s : StatSetting) → IsStatSetting s → stat_read (stat_place.Named at) (map word_of (stat_words s)) ≡ Ok (field_wish s)
+field_read : (at : StatId) (s : StatSetting) → IsStatSetting s
+    → stat_read (stat_place.Named at) (map word_of (stat_words s)) ≡ Ok (field_wish s)
 unfolding stat_read field_of place_field_of other_field_of stat_byte stat_number p3_board p3 step follower leader stat_text under_element under_colour under
 field_read at (stat.Byte X n) fits = rw (number_back 255 n (omega arith)) refl
 field_read at (stat.Byte Y n) fits = rw (number_back 255 n (omega arith)) refl

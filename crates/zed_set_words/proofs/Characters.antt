@@ -24,19 +24,22 @@ some_byte cs n c b at is =
     at_drop_more bytes cs n c at.0 ∙ head
 
 -- a byte more
-pub byte_more : (cs : List ℕ) (n c b : ℕ) (made : List ℕ) → IsAt cs n c → byte_of c ≡ Some b → (made ++ b ∷ []) ++ bytes (drop (n + 1) cs) ≡ made ++ bytes (drop n cs)
+pub byte_more : (cs : List ℕ) (n c b : ℕ) (made : List ℕ) → IsAt cs n c → byte_of c ≡ Some b
+    → (made ++ b ∷ []) ++ bytes (drop (n + 1) cs) ≡ made ++ bytes (drop n cs)
 byte_more cs n c b made at is =
     append_assoc made (b ∷ []) (bytes (drop (n + 1) cs)) ∙ ap (λ l. made ++ l) (sym (some_byte cs n c b at is))
 
 -- or none
-pub byte_none : (cs : List ℕ) (n c : ℕ) (made : List ℕ) → IsAt cs n c → byte_of c ≡ None → made ++ bytes (drop (n + 1) cs) ≡ made ++ bytes (drop n cs)
+pub byte_none : (cs : List ℕ) (n c : ℕ) (made : List ℕ) → IsAt cs n c → byte_of c ≡ None
+    → made ++ bytes (drop (n + 1) cs) ≡ made ++ bytes (drop n cs)
 byte_none cs n c made at is =
     let here : byte_of (get_or cs n c) ≡ None = ap byte_of (sym at.1) ∙ is in
     let head : bytes (get_or cs n c ∷ drop (n + 1) cs) ≡ bytes (drop (n + 1) cs) = rw here refl in
     ap (λ l. made ++ l) (sym (at_drop_more bytes cs n c at.0 ∙ head))
 
 -- with a byte there are some
-pub byte_there : (cs : List ℕ) (n c b : ℕ) (made all : List ℕ) → IsAt cs n c → byte_of c ≡ Some b → made ++ bytes (drop n cs) ≡ all → 0 < length all
+pub byte_there : (cs : List ℕ) (n c b : ℕ) (made all : List ℕ) → IsAt cs n c → byte_of c ≡ Some b → made ++ bytes (drop n cs) ≡ all
+    → 0 < length all
 byte_there cs n c b made all at is whole =
     let more : made ++ b ∷ bytes (drop (n + 1) cs) ≡ all = ap (λ l. made ++ l) (sym (some_byte cs n c b at is)) ∙ whole in
     let long = length-append made (b ∷ bytes (drop (n + 1) cs)) in
@@ -54,7 +57,8 @@ and_false true = refl
 and_false false = refl
 
 -- there is room for one that is a byte
-pub fit_more : (cs : List ℕ) (n c left : ℕ) → IsAt cs n c → is_known c ≡ true → left ≢ 0 → are_bytes (left - 1) (drop (n + 1) cs) ≡ are_bytes left (drop n cs)
+pub fit_more : (cs : List ℕ) (n c left : ℕ) → IsAt cs n c → is_known c ≡ true → left ≢ 0
+    → are_bytes (left - 1) (drop (n + 1) cs) ≡ are_bytes left (drop n cs)
 fit_more cs n c zero at known room = absurd (room refl)
 fit_more cs n c (suc left) at known room =
     let here : is_known (get_or cs n c) ≡ true = ap is_known (sym at.1) ∙ known in

@@ -13,7 +13,8 @@ unfolding integer_of number_of
 integer_plain [] none = refl
 integer_plain (c ∷ cs) none = go (c == 45) refl
   where
-    go : (b : Bool) → (c == 45) ≡ b → cond b (below_zero (number_of 32768 cs)) (option_map pos (number_of 32767 (c ∷ cs))) ≡ option_map pos (number_of 32767 (c ∷ cs))
+    go : (b : Bool) → (c == 45) ≡ b
+        → cond b (below_zero (number_of 32768 cs)) (option_map pos (number_of 32767 (c ∷ cs))) ≡ option_map pos (number_of 32767 (c ∷ cs))
     go false is = refl
     go true is =
         let same : c ≡ 45 = grind (arith, nat_tests) in

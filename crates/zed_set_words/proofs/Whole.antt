@@ -314,7 +314,8 @@ pub wrong_word_is_told : WrongWordIsTold
 unfolding rows.wish_of
 wrong_word_is_told words b h = go (rows.thing words) refl h
   where
-    mended : (s : Stop) (front back : List Word) → bad (length front) s.expected ≡ b → IsFirm rows.thing front back s.expected → IsNotMended front back b
+    mended : (s : Stop) (front back : List Word) → bad (length front) s.expected ≡ b → IsFirm rows.thing front back s.expected
+        → IsNotMended front back b
     mended s front [] same firm = tt
     mended s front (w ∷ ws) same firm = λ others.
         rw (firm others) (

@@ -8,7 +8,8 @@ abbrev pub text_of : Expected → List ℕ
 text_of Thing = codes "world, board or stat"
 text_of Register = codes "a register of the world: name, start-board, ammo, gems, health, torches, torch ticks, energizer ticks, score, time passed, hundredths, key, flag or saved"
 text_of Property = codes "a property of a board: name, message, dark, re-enter, max shots, start, exit, time limit or rank"
-text_of Field = codes "a field of a stat: at, x, y, p1, p2, p3, leads-to, step, cycle, position, follower, leader, follows, text, shares or under"
+text_of Field =
+    codes "a field of a stat: at, x, y, p1, p2, p3, leads-to, step, cycle, position, follower, leader, follows, text, shares or under"
 text_of TicksWord = codes "ticks"
 text_of PassedWord = codes "passed"
 text_of BoardWord = codes "board"

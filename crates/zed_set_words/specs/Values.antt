@@ -83,7 +83,8 @@ key_of word = named (row (codes "blue") Blue ∷ row (codes "green") Green ∷ r
 
 -- the number of a flag, from 1 on
 abbrev pub slot_of : Word → Option FlagSlot
-slot_of word = named (row (codes "1") First ∷ row (codes "2") Second ∷ row (codes "3") Third ∷ row (codes "4") Fourth ∷ row (codes "5") Fifth
+slot_of word =
+    named (row (codes "1") First ∷ row (codes "2") Second ∷ row (codes "3") Third ∷ row (codes "4") Fourth ∷ row (codes "5") Fifth
     ∷ row (codes "6") Sixth ∷ row (codes "7") Seventh ∷ row (codes "8") Eighth ∷ row (codes "9") Ninth ∷ row (codes "10") Tenth ∷ []) word
 
 -- a side of a board

@@ -19,7 +19,8 @@ range_more a (suc n) =
     ap (λ t. a ∷ t) (range_more (a + 1) n) ∙ ap (λ x. a ∷ (range_with_len (a + 1) n ++ x ∷ [])) last
 
 -- one row more
-pub row_more : {X : Type 0} (f : ℕ → List X) (first row : ℕ) (o p q : List X) → first ≤ row → p ≡ o ++ flat_map f (range_with_len first (row - first)) → q ≡ p ++ f row
+pub row_more : {X : Type 0} (f : ℕ → List X) (first row : ℕ) (o p q : List X) → first ≤ row
+    → p ≡ o ++ flat_map f (range_with_len first (row - first)) → q ≡ p ++ f row
     → q ≡ o ++ flat_map f (range_with_len first (row + 1 - first))
 row_more f first row o p q from e g =
     let next : row + 1 - first ≡ suc (row - first) = omega (arith, from) in
@@ -30,14 +31,17 @@ row_more f first row o p q from e g =
     g ∙ ap (λ t. t ++ f row) e ∙ flat_map_more f o before row ∙ ap (λ r. o ++ flat_map f r) (sym more)
 
 -- what a frame of a playtest shows beside the board
-pub beside_at : (p : Playtest) (frame : Frame) (row column : ℕ) (spot : Spot) → Shows frame (play_cell p) → 80 * row + column < 2000 → slice_get frame.cells (80 * row + column) ≡ Some (cell_of spot) → spot ≡ spot_beside p row column
+pub beside_at : (p : Playtest) (frame : Frame) (row column : ℕ) (spot : Spot) → Shows frame (play_cell p) → 80 * row + column < 2000
+    → slice_get frame.cells (80 * row + column) ≡ Some (cell_of spot)
+    → spot ≡ spot_beside p row column
 beside_at p frame row column spot shows below there =
     let told : slice_get frame.cells (80 * row + column) ≡ Some (play_cell p (80 * row + column)) = shows (80 * row + column) below in
     let same : cell_of spot ≡ play_cell p (80 * row + column) = cc in
     ap spot_of same
 
 -- one column more
-pub column_more : (p : Playtest) (row k : ℕ) (before after done : List Spot) (spot : Spot) → 60 ≤ k → spot ≡ spot_beside p row k → done ≡ before ++ map (spot_beside p row) (range_with_len 60 (k - 60))
+pub column_more : (p : Playtest) (row k : ℕ) (before after done : List Spot) (spot : Spot) → 60 ≤ k → spot ≡ spot_beside p row k
+    → done ≡ before ++ map (spot_beside p row) (range_with_len 60 (k - 60))
     → after ≡ done ++ spot ∷ [] → after ≡ before ++ map (spot_beside p row) (range_with_len 60 (k + 1 - 60))
 column_more p row k before after done spot from is e g =
     let there : 60 + (k - 60) ≡ k = omega (arith, from) in
@@ -48,9 +52,11 @@ column_more p row k before after done spot from is e g =
     ∙ ap (λ n. before ++ map (spot_beside p row) (range_with_len 60 n)) next
 
 -- the lines from a message on are its own and those behind it
-next_message : (ms : List (List ℕ)) (i : ℕ) (m : List ℕ) → slice_get ms i ≡ Some m → flat_map message_line (drop i ms) ≡ message_line m ++ flat_map message_line (drop (i + 1) ms)
+next_message : (ms : List (List ℕ)) (i : ℕ) (m : List ℕ) → slice_get ms i ≡ Some m
+    → flat_map message_line (drop i ms) ≡ message_line m ++ flat_map message_line (drop (i + 1) ms)
 next_message ms i m is =
-    let here : drop i ms ≡ m ∷ drop (suc i) ms = drop-cons ms i m (slice_get_within ms i m is) ∙ ap (λ x. x ∷ drop (suc i) ms) (get_or_from_slice_get ms i m m is) in
+    let here : drop i ms ≡ m ∷ drop (suc i) ms =
+    drop-cons ms i m (slice_get_within ms i m is) ∙ ap (λ x. x ∷ drop (suc i) ms) (get_or_from_slice_get ms i m m is) in
     let same : suc i ≡ i + 1 = omega arith in
     ap (flat_map message_line) here ∙ ap (λ n. message_line m ++ flat_map message_line (drop n ms)) same
 

@@ -33,13 +33,15 @@ columns_more n b is =
 abbrev pub behind : List ℕ → Stroke → List Input
 behind bytes s = with_input s.input (inputs_in s.reading bytes)
 
-rows_read : (n : ℕ) (digits tail : List ℕ) → list_all is_digit digits ≡ true → inputs_in (Rows n) (digits ++ (59 ∷ tail)) ≡ inputs_in (Columns (number_of n digits)) tail
+rows_read : (n : ℕ) (digits tail : List ℕ) → list_all is_digit digits ≡ true
+    → inputs_in (Rows n) (digits ++ (59 ∷ tail)) ≡ inputs_in (Columns (number_of n digits)) tail
 rows_read n [] tail is = refl
 rows_read n (b ∷ digits) tail is =
     let p = and_parts (is_digit b) (list_all is_digit digits) is in
     ap (behind (digits ++ (59 ∷ tail))) (rows_more n b p.0) ∙ rows_read (longer n b) digits tail p.1
 
-columns_read : (n : ℕ) (digits bytes : List ℕ) → list_all is_digit digits ≡ true → inputs_in (Columns n) (digits ++ (116 ∷ bytes)) ≡ Resized n ∷ inputs_in Between bytes
+columns_read : (n : ℕ) (digits bytes : List ℕ) → list_all is_digit digits ≡ true
+    → inputs_in (Columns n) (digits ++ (116 ∷ bytes)) ≡ Resized n ∷ inputs_in Between bytes
 columns_read n [] bytes is = refl
 columns_read n (b ∷ digits) bytes is =
     let p = and_parts (is_digit b) (list_all is_digit digits) is in

@@ -18,7 +18,8 @@ shot b =
 
 -- the same without: a small letter tells of shift by itself
 abbrev pub arrow : ℕ → Option Key
-arrow b = if b == 65 then Some North else if b == 66 then Some South else if b == 67 then Some East else if b == 68 then Some West else shot b
+arrow b =
+    if b == 65 then Some North else if b == 66 then Some South else if b == 67 then Some East else if b == 68 then Some West else shot b
 
 -- a byte that completes nothing
 abbrev pub on : Reading → Stroke

@@ -127,7 +127,8 @@ leader_kept : (o : Option ℕ) (n : ℤ) (v : StatValues) → (with_number o n v
 leader_kept (Some i) n v = refl
 leader_kept None n v = refl
 
-number_same : (o : Option ℕ) (v u : StatValues) → v.fields.numbers ≡ u.fields.numbers → v.position ≡ u.position → number_at o v ≡ number_at o u
+number_same : (o : Option ℕ) (v u : StatValues) → v.fields.numbers ≡ u.fields.numbers → v.position ≡ u.position
+    → number_at o v ≡ number_at o u
 number_same (Some i) v u p q = ap (λ xs. slice_index_or xs i (pos 0)) p
 number_same None v u p q = q
 
@@ -137,14 +138,16 @@ number_other (Some i) None n v h = refl
 number_other None (Some j) n v h = refl
 number_other None None n v h = absurd (h refl)
 
-number_set : (f : StatNumber) (n : ℤ) (v : StatValues) → length v.fields.numbers ≡ 3 → number_at (stat_number_index f) (with_number (stat_number_index f) n v) ≡ n
+number_set : (f : StatNumber) (n : ℤ) (v : StatValues) → length v.fields.numbers ≡ 3
+    → number_at (stat_number_index f) (with_number (stat_number_index f) n v) ≡ n
 number_set StepX n v h = get_or-set_same v.fields.numbers 0 n (pos 0) (omega arith)
 number_set StepY n v h = get_or-set_same v.fields.numbers 1 n (pos 0) (omega arith)
 number_set Cycle n v h = get_or-set_same v.fields.numbers 2 n (pos 0) (omega arith)
 number_set Position n v h = refl
 
 -- the field of a setting has its value
-value_set : (w : StatSetting) (v : StatValues) → length v.fields.bytes ≡ 6 → length v.fields.numbers ≡ 3 → value_of (field_of w) (with_setting w v) ≡ w
+value_set : (w : StatSetting) (v : StatValues) → length v.fields.bytes ≡ 6 → length v.fields.numbers ≡ 3
+    → value_of (field_of w) (with_setting w v) ≡ w
 value_set (setting.Byte f n) v b m = let low = byte_low f in ap (setting.Byte f) (get_or-set_same v.fields.bytes (stat_byte_index f) n 0 (omega arith))
 value_set (setting.Number f n) v b m = ap (setting.Number f) (number_set f n v m)
 value_set (setting.P3 p) v b m = refl
@@ -153,19 +156,26 @@ value_set (setting.Leader o) v b m = refl
 value_set (setting.Text o) v b m = refl
 
 -- each other field has the value that it had
-value_other : (f : StatField) (w : StatSetting) (v : StatValues) → eqb (field_number (field_of w)) (field_number f) ≡ false → value_of f (with_setting w v) ≡ value_of f v
+value_other : (f : StatField) (w : StatSetting) (v : StatValues) → eqb (field_number (field_of w)) (field_number f) ≡ false
+    → value_of f (with_setting w v) ≡ value_of f v
 value_other (Byte f) (setting.Byte g n) v h = ap (setting.Byte f) (get_or-set_other v.fields.bytes (stat_byte_index g) (stat_byte_index f) n 0 (λ e. apart (stat_byte_field g) (stat_byte_field f) h (byte_field-is g ∙ ap byte_field (sym e) ∙ sym (byte_field-is f))))
-value_other (Byte f) (setting.Number g n) v h = ap (λ xs. setting.Byte f (slice_index_or xs (stat_byte_index f) 0)) (bytes_kept (stat_number_index g) n v)
+value_other (Byte f) (setting.Number g n) v h =
+    ap (λ xs. setting.Byte f (slice_index_or xs (stat_byte_index f) 0)) (bytes_kept (stat_number_index g) n v)
 value_other (Byte f) (setting.P3 p) v h = refl
 value_other (Byte f) (setting.Follower o) v h = refl
 value_other (Byte f) (setting.Leader o) v h = refl
 value_other (Byte f) (setting.Text o) v h = refl
-value_other (Number f) (setting.Byte g n) v h = ap (setting.Number f) (number_same (stat_number_index f) (with_setting (setting.Byte g n) v) v refl refl)
+value_other (Number f) (setting.Byte g n) v h =
+    ap (setting.Number f) (number_same (stat_number_index f) (with_setting (setting.Byte g n) v) v refl refl)
 value_other (Number f) (setting.Number g n) v h = ap (setting.Number f) (number_other (stat_number_index f) (stat_number_index g) n v (λ e. apart (stat_number_field g) (stat_number_field f) h (number_field-is g ∙ ap number_field (sym e) ∙ sym (number_field-is f))))
-value_other (Number f) (setting.P3 p) v h = ap (setting.Number f) (number_same (stat_number_index f) (with_setting (setting.P3 p) v) v refl refl)
-value_other (Number f) (setting.Follower o) v h = ap (setting.Number f) (number_same (stat_number_index f) (with_setting (setting.Follower o) v) v refl refl)
-value_other (Number f) (setting.Leader o) v h = ap (setting.Number f) (number_same (stat_number_index f) (with_setting (setting.Leader o) v) v refl refl)
-value_other (Number f) (setting.Text o) v h = ap (setting.Number f) (number_same (stat_number_index f) (with_setting (setting.Text o) v) v refl refl)
+value_other (Number f) (setting.P3 p) v h =
+    ap (setting.Number f) (number_same (stat_number_index f) (with_setting (setting.P3 p) v) v refl refl)
+value_other (Number f) (setting.Follower o) v h =
+    ap (setting.Number f) (number_same (stat_number_index f) (with_setting (setting.Follower o) v) v refl refl)
+value_other (Number f) (setting.Leader o) v h =
+    ap (setting.Number f) (number_same (stat_number_index f) (with_setting (setting.Leader o) v) v refl refl)
+value_other (Number f) (setting.Text o) v h =
+    ap (setting.Number f) (number_same (stat_number_index f) (with_setting (setting.Text o) v) v refl refl)
 value_other P3 (setting.Byte g n) v h = refl
 value_other P3 (setting.Number g n) v h = ap setting.P3 (p3_kept (stat_number_index g) n v)
 value_other P3 (setting.P3 p) v h = absurd (true≢false h)
@@ -191,7 +201,8 @@ value_other Text (setting.Follower o) v h = refl
 value_other Text (setting.Leader o) v h = refl
 value_other Text (setting.Text o) v h = absurd (true≢false h)
 
-whole_values : (w : StatSetting) (v : StatValues) → length v.fields.bytes ≡ 6 → length v.fields.numbers ≡ 3 → (length (with_setting w v).fields.bytes ≡ 6) × (length (with_setting w v).fields.numbers ≡ 3)
+whole_values : (w : StatSetting) (v : StatValues) → length v.fields.bytes ≡ 6 → length v.fields.numbers ≡ 3
+    → (length (with_setting w v).fields.bytes ≡ 6) × (length (with_setting w v).fields.numbers ≡ 3)
 whole_values (setting.Byte f n) v b m = (length-set v.fields.bytes (stat_byte_index f) n ∙ b, m)
 whole_values (setting.Number StepX n) v b m = (b, length-set v.fields.numbers 0 n ∙ m)
 whole_values (setting.Number StepY n) v b m = (b, length-set v.fields.numbers 1 n ∙ m)
@@ -216,21 +227,25 @@ held_at v s = record { stamp = s; value = v }
 
 -- a field after one write
 one_write : (f : StatField) (w : Written StatSetting) (s : LiveStat) → IsWhole s
-    → Some (held f (write w.stamp w.value s)) ≡ cond (eqb (field_number (field_of w.value)) (field_number f)) (keep_later (Some (held f s)) w) (Some (held f s))
+    → Some (held f (write w.stamp w.value s))
+    ≡ cond (eqb (field_number (field_of w.value)) (field_number f)) (keep_later (Some (held f s)) w) (Some (held f s))
 one_write f w s h = go (eqb (field_number (field_of w.value)) (field_number f)) refl (before (stamp_of (field_of w.value) s) w.stamp) refl
   where
     low : length s.stamps ≡ 14
     low = h.stamps
 
-    go : (b : Bool) → eqb (field_number (field_of w.value)) (field_number f) ≡ b → (c : Bool) → before (stamp_of (field_of w.value) s) w.stamp ≡ c
+    go : (b : Bool) → eqb (field_number (field_of w.value)) (field_number f) ≡ b → (c : Bool)
+        → before (stamp_of (field_of w.value) s) w.stamp ≡ c
         → Some (held f (write w.stamp w.value s)) ≡ cond b (keep_later (Some (held f s)) w) (Some (held f s))
     go true b true c =
         let same = one_field (field_of w.value) f b in
         let under = number_low (field_of w.value) in
         let later : before (stamp_of f s) w.stamp ≡ true = subst (λ g. before (stamp_of g s) w.stamp ≡ true) same c in
         let stamp : stamp_of f (overwrite w.stamp w.value s) ≡ w.stamp = subst (λ g. stamp_of g (overwrite w.stamp w.value s) ≡ w.stamp) same (get_or-set_same s.stamps (field_number (field_of w.value)) w.stamp no_stamp (omega arith)) in
-        let value : value_of f (with_setting w.value s.values) ≡ w.value = subst (λ g. value_of g (with_setting w.value s.values) ≡ w.value) same (value_set w.value s.values h.bytes h.numbers) in
-        let made : held f (overwrite w.stamp w.value s) ≡ w = ap (held_at (value_of f (with_setting w.value s.values))) stamp ∙ ap (λ v. held_at v w.stamp) value in
+        let value : value_of f (with_setting w.value s.values) ≡ w.value =
+        subst (λ g. value_of g (with_setting w.value s.values) ≡ w.value) same (value_set w.value s.values h.bytes h.numbers) in
+        let made : held f (overwrite w.stamp w.value s) ≡ w =
+        ap (held_at (value_of f (with_setting w.value s.values))) stamp ∙ ap (λ v. held_at v w.stamp) value in
         rw (c, later) (ap Some made)
     go true b false c =
         let same = one_field (field_of w.value) f b in
@@ -239,7 +254,8 @@ one_write f w s h = go (eqb (field_number (field_of w.value)) (field_number f)) 
     go false b true c =
         let stamp : stamp_of f (overwrite w.stamp w.value s) ≡ stamp_of f s = get_or-set_other s.stamps (field_number (field_of w.value)) (field_number f) w.stamp no_stamp (λ e. apart (field_number (field_of w.value)) (field_number f) b (sym e)) in
         let value = value_other f w.value s.values b in
-        let made : held f (overwrite w.stamp w.value s) ≡ held f s = ap (held_at (value_of f (with_setting w.value s.values))) stamp ∙ ap (λ v. held_at v (stamp_of f s)) value in
+        let made : held f (overwrite w.stamp w.value s) ≡ held f s =
+        ap (held_at (value_of f (with_setting w.value s.values))) stamp ∙ ap (λ v. held_at v (stamp_of f s)) value in
         rw c (ap Some made)
     go false b false c = rw c refl
 

@@ -21,7 +21,8 @@ number_of-start id es = go (number_of id es)
 pub few-numbered : (es : List (StatId × LiveStat)) → length (numbered es) ≤ length es
 few-numbered es = omega (arith, length-append (filter is_alive_player es) (filter is_alive_other es), both es)
   where
-    step : (e : StatId × LiveStat) (es : List (StatId × LiveStat)) (p r : Bool) → length (filter is_alive_player es) + length (filter is_alive_other es) ≤ length es
+    step : (e : StatId × LiveStat) (es : List (StatId × LiveStat)) (p r : Bool)
+        → length (filter is_alive_player es) + length (filter is_alive_other es) ≤ length es
         → length (cond (p && not r) (e ∷ filter is_alive_player es) (filter is_alive_player es)) + length (cond (not p && not r) (e ∷ filter is_alive_other es) (filter is_alive_other es)) ≤ suc (length es)
     step e es true true h = omega (arith, h)
     step e es true false h = omega (arith, h)

@@ -30,13 +30,15 @@ abbrev not_told : DocumentError → Result Delivered DocumentError
 not_told e = Err e
 
 -- what is answered of an edit that fits, by a document that isn't stale
-at_fit : (d : Replica) (e : Edit) (r : Result Delivered DocumentError) → d.is_stale ≡ false → Fits e → Answers d e r → AnswersAt (edit_with e.stamp d.edits) d.edits e r
+at_fit : (d : Replica) (e : Edit) (r : Result Delivered DocumentError) → d.is_stale ≡ false → Fits e → Answers d e r
+    → AnswersAt (edit_with e.stamp d.edits) d.edits e r
 at_fit d e r sound fits a =
     let b = subst (λ s. MatchBool s (r ≡ Err document.Stale) (AnswersFit (fault e) d.edits e r)) sound a in
     subst (λ c. AnswersFit c d.edits e r) fits b
 
 -- one that was accepted is free
-accepted_free : (o : Option Edit) (es : List Edit) (e : Edit) (d : Delivered) → o ≡ edit_with e.stamp es → AnswersAt o es e (Ok d) → IsFree es e
+accepted_free : (o : Option Edit) (es : List Edit) (e : Edit) (d : Delivered) → o ≡ edit_with e.stamp es → AnswersAt o es e (Ok d)
+    → IsFree es e
 accepted_free None es e d is a = rw (← is) tt
 accepted_free (Some f) es e d is a =
     elim a [
@@ -45,7 +47,9 @@ accepted_free (Some f) es e d is a =
     ]
 
 -- one that is free isn't refused
-free_accepted : (o : Option Edit) (es : List Edit) (e : Edit) (why : DocumentError) → o ≡ edit_with e.stamp es → IsFree es e → AnswersAt o es e (Err why) → ⊥
+free_accepted : (o : Option Edit) (es : List Edit) (e : Edit) (why : DocumentError) → o ≡ edit_with e.stamp es → IsFree es e
+    → AnswersAt o es e (Err why)
+    → ⊥
 free_accepted None es e why is free a = a
 free_accepted (Some f) es e why is free a =
     elim a [
@@ -54,7 +58,8 @@ free_accepted (Some f) es e why is free a =
     ]
 
 -- deliveries that were all accepted: none clashes
-joins_each : (d : Replica) (es left : List Edit) → d.is_stale ≡ false → AllFit es → DeliversEach d es (Ok tt) left → Joins d.edits es × (left ≡ union d.edits es)
+joins_each : (d : Replica) (es left : List Edit) → d.is_stale ≡ false → AllFit es → DeliversEach d es (Ok tt) left
+    → Joins d.edits es × (left ≡ union d.edits es)
 joins_each d [] left sound fit each = (tt, each.1)
 joins_each d (e ∷ es) left sound fit each =
     elim each [
@@ -65,7 +70,8 @@ joins_each d (e ∷ es) left sound fit each =
     ]
 
 -- where none clashes all are accepted
-each_joins : (d : Replica) (es left : List Edit) (r : Result (Unit {0}) DocumentError) → d.is_stale ≡ false → AllFit es → Joins d.edits es → DeliversEach d es r left
+each_joins : (d : Replica) (es left : List Edit) (r : Result (Unit {0}) DocumentError) → d.is_stale ≡ false → AllFit es → Joins d.edits es
+    → DeliversEach d es r left
     → (r ≡ Ok tt) × (left ≡ union d.edits es)
 each_joins d [] left r sound fit joins each = each
 each_joins d (e ∷ es) left r sound fit joins each =
@@ -77,11 +83,14 @@ each_joins d (e ∷ es) left r sound fit joins each =
 abbrev AnswersAll : Replica → List Edit → Result (Unit {0}) DocumentError → List Edit → Type 0
 AnswersAll d es r left = (r ≡ Err document.Memory) ⊎ AnswersEach d es r left
 
-when_sound : (d : Replica) (es left : List Edit) (r : Result (Unit {0}) DocumentError) → d.is_stale ≡ false → AnswersEach d es r left → DeliversEach d es r left
-when_sound d es left r sound each = subst (λ b. MatchBool b ((r ≡ Err document.Stale) × (left ≡ d.edits)) (DeliversEach d es r left)) sound each
+when_sound : (d : Replica) (es left : List Edit) (r : Result (Unit {0}) DocumentError) → d.is_stale ≡ false → AnswersEach d es r left
+    → DeliversEach d es r left
+when_sound d es left r sound each =
+    subst (λ b. MatchBool b ((r ≡ Err document.Stale) × (left ≡ d.edits)) (DeliversEach d es r left)) sound each
 
 -- all were accepted: none clashes, and the document has them beside its own
-pub all_joined : (d : Replica) (es left : List Edit) → d.is_stale ≡ false → AllFit es → AnswersAll d es (Ok tt) left → Joins d.edits es × (left ≡ union d.edits es)
+pub all_joined : (d : Replica) (es left : List Edit) → d.is_stale ≡ false → AllFit es → AnswersAll d es (Ok tt) left
+    → Joins d.edits es × (left ≡ union d.edits es)
 all_joined d es left sound fit why =
     elim why [
       | inl bad ↦ absurd (let no : done ≡ refused document.Memory = bad in cc)
@@ -89,7 +98,9 @@ all_joined d es left sound fit why =
     ]
 
 -- where none clashes all are accepted, or memory lacks
-pub comes_out : (d : Replica) (es left : List Edit) (r : Result (Unit {0}) DocumentError) → d.is_stale ≡ false → AllFit es → Joins d.edits es → AnswersAll d es r left → (r ≡ Err document.Memory) ⊎ (r ≡ Ok tt)
+pub comes_out : (d : Replica) (es left : List Edit) (r : Result (Unit {0}) DocumentError) → d.is_stale ≡ false → AllFit es
+    → Joins d.edits es → AnswersAll d es r left
+    → (r ≡ Err document.Memory) ⊎ (r ≡ Ok tt)
 comes_out d es left r sound fit joins answer =
     elim answer [
       | inl lacks ↦ inl lacks
@@ -116,7 +127,8 @@ below_with s log e is below =
 
 pub behind_join : (s : Stamp) (log es : List Edit) → AllBelow s log → AreFrom s es → Joins log es
 behind_join s log [] below from = tt
-behind_join s log (e ∷ es) below from = (free_behind s log e from.0 below, behind_join (later s) (with_edit e log) es (below_with s log e from.0 below) from.1)
+behind_join s log (e ∷ es) below from =
+    (free_behind s log e from.0 below, behind_join (later s) (with_edit e log) es (below_with s log e from.0 below) from.1)
 
 -- edits with the next stamps of a document clash with none of it
 pub next_join : (log es : List Edit) (replica : ℕ) → AreFrom (next_stamp log replica) es → Joins log es

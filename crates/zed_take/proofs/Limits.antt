@@ -51,7 +51,8 @@ not_board limit n b =
 
 not_boards : (limit n : ℕ) (bs : List BoardData) → boards_refusal limit n bs ≡ memory → ⊥
 not_boards limit n [] h = absurd (let no : nothing ≡ memory = h in cc)
-not_boards limit n (b ∷ bs) h = neither (board_refusal limit n b) (boards_refusal limit (n + 1) bs) (not_board limit n b) (not_boards limit (n + 1) bs) h
+not_boards limit n (b ∷ bs) h =
+    neither (board_refusal limit n b) (boards_refusal limit (n + 1) bs) (not_board limit n b) (not_boards limit (n + 1) bs) h
 
 pub no_memory : (limit : ℕ) (p : Plain) → refusal_of limit p ≡ memory → ⊥
 no_memory limit p =
@@ -75,7 +76,8 @@ within view false None text not h = (refl, refl)
 within view false (Some e) text not h = absurd (not (let same : lacking view ≡ refused_of view e = h in cc))
 
 pub lacks : {X : Type 0} (view : X → List ℕ) (d : Replica) → Answers view (unless_stale d (saved 32767)) (Err Memory) → IsWithin d
-lacks view d h = within view d.is_stale (refusal_of 32767 (replay d.edits)) (world_text (world_of (replay d.edits))) (no_memory 32767 (replay d.edits)) h
+lacks view d h =
+    within view d.is_stale (refusal_of 32767 (replay d.edits)) (world_text (world_of (replay d.edits))) (no_memory 32767 (replay d.edits)) h
 
 -- ---- the world
 
@@ -107,7 +109,9 @@ only_boards : (n : ℕ) (bs : List BoardData) (e : WorldError) → first_over 32
 only_boards n [] e h = absurd (let no : not_over ≡ over e = h in cc)
 only_boards n (b ∷ bs) e h = go (nat_lt 32767 (length (body_text b))) (λ k. only_boards (n + 1) bs e k) h
   where
-    go : (c : Bool) → (first_over 32767 (n + 1) bs ≡ Some e → IsBoardOver e) → (if c then over (world.BoardOver n (length (body_text b))) else first_over 32767 (n + 1) bs) ≡ Some e → IsBoardOver e
+    go : (c : Bool) → (first_over 32767 (n + 1) bs ≡ Some e → IsBoardOver e)
+        → (if c then over (world.BoardOver n (length (body_text b))) else first_over 32767 (n + 1) bs) ≡ Some e
+        → IsBoardOver e
     go true more k = record { board = n; bytes = length (body_text b); is = (let same : over (world.BoardOver n (length (body_text b))) ≡ over e = k in cc) }
     go false more k = more k
 
@@ -120,7 +124,8 @@ unfolding written
 over_for w e h = refused_for (first_over 32767 0 w.boards) (world_text w) e h
 
 -- what is told of a world is a board that is over
-pub told_over : (w : Contents) (e : WorldError) (t : TakeError) → (e ≡ world.Memory) ⊎ (written 32767 w ≡ Err e) → over_told e ≡ Some t → IsOver w t
+pub told_over : (w : Contents) (e : WorldError) (t : TakeError) → (e ≡ world.Memory) ⊎ (written 32767 w ≡ Err e) → over_told e ≡ Some t
+    → IsOver w t
 told_over w e t gives h =
     elim gives [
       | inl m ↦ absurd (let no : untold ≡ told_as t = (rw m at h) in cc)
@@ -131,7 +136,9 @@ told_over w e t gives h =
     ]
 
 -- and where nothing is told only memory lacks
-pub told_none : (w : Contents) (e : WorldError) → (e ≡ world.Memory) ⊎ (written 32767 w ≡ Err e) → (e ≡ world.Memory → HasText 32767 w) → over_told e ≡ None → HasText 32767 w
+pub told_none : (w : Contents) (e : WorldError) → (e ≡ world.Memory) ⊎ (written 32767 w ≡ Err e) → (e ≡ world.Memory → HasText 32767 w)
+    → over_told e ≡ None
+    → HasText 32767 w
 told_none w e gives lacks h =
     elim gives [
       | inl m ↦ lacks m

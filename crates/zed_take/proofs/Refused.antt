@@ -121,7 +121,8 @@ pub settled : {X : Type 0} (d b : Replica) (w : Contents) (r : Result X TakeErro
     → OnOk r (HasText 32767 w × IsWithin b)
     → IfErr r (λ e. IsOverFirst b w e ⊎ (HasText 32767 w × IsWithin b × IsLate b.edits w e))
     → (e : TakeError) → IsRefused d b w e → r ≡ Err e
-settled d b w (Ok x) time fine late e refused = absurd (refused_none d b w e (record { time = time; text = fine.0; within = fine.1 }) refused)
+settled d b w (Ok x) time fine late e refused =
+    absurd (refused_none d b w e (record { time = time; text = fine.0; within = fine.1 }) refused)
 settled d b w (Err f) time fine late e refused =
     elim late [
       | inl first ↦ ap Err (refused_one d b w f e (inr (time, first)) refused)
@@ -143,7 +144,8 @@ pub spent : (d b : Replica) (w : Contents) → is_out_of_time d.edits ≡ true �
 spent d b w out e refused = refused_one d b w ClockSpent e (inl (out, refl)) refused
 
 -- edits that are taken join the document whose next stamps they have
-pub takes_join : (log base : List Edit) (w : Contents) (replica : ℕ) (first : Stamp) (r : Result (Vec Edit) TakeError) → first ≡ next_stamp log replica
+pub takes_join : (log base : List Edit) (w : Contents) (replica : ℕ) (first : Stamp) (r : Result (Vec Edit) TakeError)
+    → first ≡ next_stamp log replica
     → IfOk r (λ edits. AreTaken base w first edits.items) → IfOk r (λ edits. Joins log edits.items)
 takes_join log base w replica first (Ok edits) is taken = next_join log edits.items replica (rw is at taken.lead.from)
 takes_join log base w replica first (Err e) is taken = tt

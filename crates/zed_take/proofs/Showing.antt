@@ -40,14 +40,17 @@ within None file text w h = refl
 within (Some e) file text w h = absurd (let no : over_as e ≡ file_as file = h in cc)
 
 -- a file that is read both as what is exported and as a world: the world is what is exported
-pub shown : (p : Plain) (w : Contents) (file : List ℕ) → saved 32767 p ≡ Ok file → world_at file ≡ Ok (world_of p) → world_at file ≡ Ok w → exported 32767 p ≡ Ok w
+pub shown : (p : Plain) (w : Contents) (file : List ℕ) → saved 32767 p ≡ Ok file → world_at file ≡ Ok (world_of p) → world_at file ≡ Ok w
+    → exported 32767 p ≡ Ok w
 shown p w file s back is =
     let same : read_as (world_of p) ≡ read_as w = sym back ∙ is in
     let one : world_of p ≡ w = cc in
     within (refusal_of 32767 p) file (world_text (world_of p)) (world_of p) s ∙ ap shown_as one
 
 -- a saved file is the one text of the world that is shown
-file_is : (over : Option ExportError) (w v : Contents) (file : List ℕ) → unless_over over (world_text w) ≡ Ok file → unless_over over w ≡ Ok v → file ≡ world_text v
+file_is : (over : Option ExportError) (w v : Contents) (file : List ℕ) → unless_over over (world_text w) ≡ Ok file
+    → unless_over over w ≡ Ok v
+    → file ≡ world_text v
 file_is None w v file s e =
     let same : file_as (world_text w) ≡ file_as file = s in
     let one : shown_as w ≡ shown_as v = e in

@@ -47,11 +47,13 @@ sizes_front : (xs ys : List Edit) → HaveSizes (xs ++ ys) → HaveSizes xs
 sizes_front [] ys h = tt
 sizes_front (x ∷ xs) ys h = (h.0, sizes_front xs ys h.1)
 
-skipped : {V : Type 0} (writes : Edit → Option V) (y : Edit) (ys : List Edit) → writes y ≡ None → writes_of writes (y ∷ ys) ≡ writes_of writes ys
+skipped : {V : Type 0} (writes : Edit → Option V) (y : Edit) (ys : List Edit) → writes y ≡ None
+    → writes_of writes (y ∷ ys) ≡ writes_of writes ys
 skipped writes y ys none = rw none refl
 
 -- of edits that write nothing those that are done write nothing
-nothing : {V : Type 0} (writes : Edit → Option V) (p : Plain) (ys : List Edit) → AllByRecursion (λ e. writes e ≡ None) ys → writes_of writes (taken_on p ys) ≡ []
+nothing : {V : Type 0} (writes : Edit → Option V) (p : Plain) (ys : List Edit) → AllByRecursion (λ e. writes e ≡ None) ys
+    → writes_of writes (taken_on p ys) ≡ []
 nothing writes p [] none = refl
 nothing writes p (y ∷ ys) none = go (can p y) (taken_on (step p y) ys) (nothing writes (step p y) ys none.1)
   where
@@ -59,7 +61,8 @@ nothing writes p (y ∷ ys) none = go (can p y) (taken_on (step p y) ys) (nothin
     go true rest h = skipped writes y rest none.0 ∙ h
     go false rest h = h
 
-same_writes : {V : Type 0} (writes : Edit → Option V) (es edits : List Edit) → AllByRecursion (λ e. writes e ≡ None) edits → writes_of writes (taken (es ++ edits)) ≡ writes_of writes (taken es)
+same_writes : {V : Type 0} (writes : Edit → Option V) (es edits : List Edit) → AllByRecursion (λ e. writes e ≡ None) edits
+    → writes_of writes (taken (es ++ edits)) ≡ writes_of writes (taken es)
 same_writes writes es edits none =
     ap (writes_of writes) (taken_on-append empty_document es edits)
     ∙ filter_map-append (λ e. option_map (written_at e.stamp) (writes e)) (taken es) (taken_on (replay es) edits)

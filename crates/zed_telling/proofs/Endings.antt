@@ -15,10 +15,14 @@ use Rattle.zed_files.specs.Effects.{Effect}
 use Rattle.zed_files.proofs.Endings.{collected_so}
 use Rattle.zed_telling.specs.Told.{ComesToTell, IsMade}
 
-made_so : (p q : Type 0) (t : HostContents) (names : List (List ℕ)) (tell : List Edit → Result (List ℕ) Refusal) (m : Result (List ℕ) Refusal) → (p → q) → IsMade p t names tell m → IsMade q t names tell m
+made_so : (p q : Type 0) (t : HostContents) (names : List (List ℕ)) (tell : List Edit → Result (List ℕ) Refusal) (m : Result (List ℕ) Refusal)
+    → (p → q) → IsMade p t names tell m
+    → IsMade q t names tell m
 made_so p q t names tell m so made = (made.0, collected_so p q t names made.0 so made.1, made.2)
 
-pub tell_so : (t : HostContents) (tell : List Edit → Result (List ℕ) Refusal) (files : List (List ℕ)) (p q : Type 0) (r : Result Effect Refusal) → (p → q) → ComesToTell p t tell files r → ComesToTell q t tell files r
+pub tell_so : (t : HostContents) (tell : List Edit → Result (List ℕ) Refusal) (files : List (List ℕ)) (p q : Type 0) (r : Result Effect Refusal)
+    → (p → q) → ComesToTell p t tell files r
+    → ComesToTell q t tell files r
 tell_so t tell files p q r so is = (is.0, made_so p q t files tell is.0 so is.1, is.2)
 
 -- where there is no set of edits, nothing is told of it
@@ -27,7 +31,8 @@ pub not_made : (failed : Type 0) (t : HostContents) (names : List (List ℕ)) (t
 not_made failed t names tell e why = elim why [ inl memory ↦ inl memory | inr first ↦ inr (Err e, first, refl) ]
 
 -- what was told of the set
-pub made_result : (failed : Type 0) (result : Result (Vec ℕ) Refusal) (t : HostContents) (names : List (List ℕ)) (tell : List Edit → Result (List ℕ) Refusal) (es : List Edit) → Collects failed t names (Ok es)
+pub made_result : (failed : Type 0) (result : Result (Vec ℕ) Refusal) (t : HostContents) (names : List (List ℕ)) (tell : List Edit → Result (List ℕ) Refusal) (es : List Edit)
+    → Collects failed t names (Ok es)
     → MatchResult result (λ text. tell es ≡ Ok text.items) (λ e. (e ≡ Memory) ⊎ (tell es ≡ Err e))
     → MatchResult result (λ text. IsMade failed t names tell (Ok text.items)) (λ e. (e ≡ Memory) ⊎ IsMade failed t names tell (Err e))
 made_result failed (Ok text) t names tell es all is = (Ok es, all, sym is)

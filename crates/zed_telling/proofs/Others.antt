@@ -92,7 +92,8 @@ board_plain : (p : Plain) (n : Option ℕ) → RefusesPlainly (board_sought p n)
 board_plain p None e is = absurd cc
 board_plain p (Some n) e is = there_plain (named_board p n) (board_or_plain (board_numbered p n)) e is
 
-cell_on_plain : (place : Result Place Refusal) (board : Result BoardId Refusal) → RefusesPlainly place → RefusesPlainly board → RefusesPlainly (cell_on place board)
+cell_on_plain : (place : Result Place Refusal) (board : Result BoardId Refusal) → RefusesPlainly place → RefusesPlainly board
+    → RefusesPlainly (cell_on place board)
 cell_on_plain (Err f) board first second e is = same_plain e f (cc) (first f refl)
 cell_on_plain (Ok place) (Err f) first second e is = same_plain e f (cc) (second f refl)
 cell_on_plain (Ok place) (Ok board) first second e is = absurd cc
@@ -109,7 +110,8 @@ cell_plain p None e is = absurd cc
 cell_plain p (Some (n, x, y)) e is =
     there_plain (cell_at p n x y) (cell_on_plain (place_of x y) (named_board p n) (place_plain x y) (board_or_plain (board_numbered p n))) e is
 
-with_plain : (replica since : Option ℕ) (board : Result (Option BoardId) Refusal) (cell : Result (Option Cell) Refusal) → RefusesPlainly board → RefusesPlainly cell
+with_plain : (replica since : Option ℕ) (board : Result (Option BoardId) Refusal) (cell : Result (Option Cell) Refusal)
+    → RefusesPlainly board → RefusesPlainly cell
     → RefusesPlainly (sought_with replica since board cell)
 with_plain replica since (Err f) cell first second e is = same_plain e f (cc) (first f refl)
 with_plain replica since (Ok board) (Err f) first second e is = same_plain e f (cc) (second f refl)

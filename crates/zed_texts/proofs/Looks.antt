@@ -21,7 +21,8 @@ total ys = sum_by (λ y. y.1.visits) ys
 
 -- ---- one rises
 
-rises-by : (ys : Texts) (i n : ℕ) (v w : Shown) → slice_get (values_of ys) i ≡ Some v → w.visits ≡ v.visits + n → total (set_value_at ys i w) ≡ total ys + n
+rises-by : (ys : Texts) (i n : ℕ) (v w : Shown) → slice_get (values_of ys) i ≡ Some v → w.visits ≡ v.visits + n
+    → total (set_value_at ys i w) ≡ total ys + n
 rises-by [] i n v w h e = absurd (cc)
 rises-by (y ∷ ys) zero n v w h e =
     let here : y.1 ≡ v = cc in
@@ -39,7 +40,8 @@ capped-twice : (a b n : ℕ) → b ≡ a + n → min (min a greatest_sum + n) gr
 capped-twice a b n h = omega (arith, h)
 
 -- the text at a place rises by so many
-pub looks-rise : (ys : Texts) (i n : ℕ) (v w : Shown) → Some v ≡ slice_get (values_of ys) i → w.visits ≡ v.visits + n → min (looks_of ys + n) greatest_sum ≡ looks_of (set_value_at ys i w)
+pub looks-rise : (ys : Texts) (i n : ℕ) (v w : Shown) → Some v ≡ slice_get (values_of ys) i → w.visits ≡ v.visits + n
+    → min (looks_of ys + n) greatest_sum ≡ looks_of (set_value_at ys i w)
 looks-rise ys i n v w h e = capped-twice (total ys) (total (set_value_at ys i w)) n (rises-by ys i n v w (sym h) e)
 
 -- ---- some are added that were never looked at

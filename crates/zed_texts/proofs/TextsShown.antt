@@ -25,7 +25,8 @@ with_name t ys = record { id = t; elements = ys }
 abbrev text_at : Name → TextId
 text_at n = record { name = n }
 
-all-shown : (n : Name) (xs : Elements) → AllByRecursion (λ x. is_earlier n (x.0).name ≡ true) xs → AllByRecursion (λ (x : Text). is_earlier n x.id.name ≡ true) (shown_texts xs)
+all-shown : (n : Name) (xs : Elements) → AllByRecursion (λ x. is_earlier n (x.0).name ≡ true) xs
+    → AllByRecursion (λ (x : Text). is_earlier n x.id.name ≡ true) (shown_texts xs)
 all-shown n [] a = tt
 all-shown n (x ∷ xs) a = (a.0, all-shown n xs a.1)
 
@@ -37,7 +38,9 @@ find-shown : (t : TextId) (xs : Elements) → find_text t (shown_texts xs) ≡ o
 find-shown t [] = refl
 find-shown t (x ∷ xs) = go (same_text t x.0) refl (find-shown t xs)
   where
-    go : (v : Bool) → same_text t x.0 ≡ v → find_text t (shown_texts xs) ≡ option_map (with_name t) (text_in t xs) → cond (same_text x.0 t) (Some (with_name x.0 x.1)) (find_text t (shown_texts xs)) ≡ option_map (with_name t) (cond v (Some x.1) (text_in t xs))
+    go : (v : Bool) → same_text t x.0 ≡ v → find_text t (shown_texts xs) ≡ option_map (with_name t) (text_in t xs)
+        → cond (same_text x.0 t) (Some (with_name x.0 x.1)) (find_text t (shown_texts xs))
+        ≡ option_map (with_name t) (cond v (Some x.1) (text_in t xs))
     go true v more =
         let i : t ≡ x.0 = same_text-true t x.0 v in
         let w : same_text x.0 t ≡ true = ap (λ d. same_text d t) (sym i) ∙ same_text-itself t in
@@ -51,7 +54,8 @@ find-whole : (t : TextId) (ts : List Text) → option_map (with_name t) (option_
 find-whole t [] = refl
 find-whole t (x ∷ ts) = go (same_text x.id t) refl (find-whole t ts)
   where
-    go : (v : Bool) → same_text x.id t ≡ v → option_map (with_name t) (option_map (λ y. y.elements) (find_text t ts)) ≡ find_text t ts → option_map (with_name t) (option_map (λ y. y.elements) (cond v (Some x) (find_text t ts))) ≡ cond v (Some x) (find_text t ts)
+    go : (v : Bool) → same_text x.id t ≡ v → option_map (with_name t) (option_map (λ y. y.elements) (find_text t ts)) ≡ find_text t ts
+        → option_map (with_name t) (option_map (λ y. y.elements) (cond v (Some x) (find_text t ts))) ≡ cond v (Some x) (find_text t ts)
     go true v more = ap (λ d. Some (with_name d x.elements)) (sym (same_text-true x.id t v))
     go false v more = more
 

@@ -65,7 +65,9 @@ steps-append t (e ∷ low) high o = steps-append t low high (text_step e.stamp e
 
 -- of the replay of edits of which none is held
 replay-steps : (t : TextId) (es : List Edit) → held es ≡ [] → find_text t (replay es).texts ≡ text_steps t es None
-replay-steps t es none = ap (λ p. find_text t p.texts) (replay_on-all_done empty_document es (AllCan-none_held empty_document es none)) ∙ done-steps t es empty_document
+replay-steps t es none =
+    ap (λ p. find_text t p.texts) (replay_on-all_done empty_document es (AllCan-none_held empty_document es none))
+    ∙ done-steps t es empty_document
 
 -- a text that is there stays
 there-stays : (t : TextId) (s : Stamp) (op : Op) (x : Text) → is_some (text_step s op t (Some x)) ≡ true
@@ -97,7 +99,9 @@ was_missing t es None h = refl
 was_missing t es (Some x) h = absurd (true≢false (sym (stays-there t es (Some x) refl) ∙ ap is_some h))
 
 -- an edit that makes and changes no text of the name leaves it
-pub steps-beside : (t : TextId) (e : Edit) (low high : List Edit) → held (low ++ high) ≡ [] → held (low ++ e ∷ high) ≡ [] → ((o : Option Text) → text_step e.stamp e.op t o ≡ o) → find_text t (replay (low ++ e ∷ high)).texts ≡ find_text t (replay (low ++ high)).texts
+pub steps-beside : (t : TextId) (e : Edit) (low high : List Edit) → held (low ++ high) ≡ [] → held (low ++ e ∷ high) ≡ []
+    → ((o : Option Text) → text_step e.stamp e.op t o ≡ o)
+    → find_text t (replay (low ++ e ∷ high)).texts ≡ find_text t (replay (low ++ high)).texts
 steps-beside t e low high none with_it pass =
     replay-steps t (low ++ e ∷ high) with_it ∙ steps-append t low (e ∷ high) None ∙ ap (text_steps t high) (pass (text_steps t low None))
     ∙ sym (steps-append t low high None)
@@ -109,7 +113,8 @@ text-there : (t : TextId) (p : Plain) → has p (thing.Text t) ≡ is_some (find
 text-there t p = sym (find-any (λ x. same_text x.id t) p.texts)
 
 -- an edit that can be done where a text isn't made doesn't change it
-unnamed-step : (t : TextId) (s : Stamp) (op : Op) (p : Plain) (x : Text) → has_all p (names_of op) ≡ true → find_text t p.texts ≡ None → text_step s op t (Some x) ≡ Some x
+unnamed-step : (t : TextId) (s : Stamp) (op : Op) (p : Plain) (x : Text) → has_all p (names_of op) ≡ true → find_text t p.texts ≡ None
+    → text_step s op t (Some x) ≡ Some x
 unnamed-step t s (Genesis bytes) p x h none = go (world_at bytes)
   where
     go : (r : Result Contents WorldError) → opened_step s r t (Some x) ≡ Some x
@@ -117,7 +122,8 @@ unnamed-step t s (Genesis bytes) p x h none = go (world_at bytes)
     go (Err e) = refl
 unnamed-step t s (TextInsert u after bytes) p x h none = go (same_text u t) refl
   where
-    go : (b : Bool) → same_text u t ≡ b → cond b (map_option (change_elements (put_after after (run_from s 0 bytes))) (Some x)) (Some x) ≡ Some x
+    go : (b : Bool) → same_text u t ≡ b
+        → cond b (map_option (change_elements (put_after after (run_from s 0 bytes))) (Some x)) (Some x) ≡ Some x
     go true b =
         let there : has p (thing.Text u) ≡ true = (and_parts (has p (thing.Text u)) (has_all p (element_named u after)) h).0 in
         absurd (true≢false (sym there ∙ ap (λ d. has p (thing.Text d)) (same_text-true u t b) ∙ text-there t p ∙ ap is_some none))
@@ -131,7 +137,8 @@ unnamed-step t s (TextDelete u r) p x h none = go (same_text u t) refl
     go false b = refl
 unnamed-step t s _ p x h none = refl
 
-unnamed-steps : (t : TextId) (es : List Edit) (p : Plain) (x : Text) → AllCan p es → text_steps t es (find_text t p.texts) ≡ None → text_steps t es (Some x) ≡ Some x
+unnamed-steps : (t : TextId) (es : List Edit) (p : Plain) (x : Text) → AllCan p es → text_steps t es (find_text t p.texts) ≡ None
+    → text_steps t es (Some x) ≡ Some x
 unnamed-steps t [] p x c h = refl
 unnamed-steps t (e ∷ es) p x c h =
     ap (text_steps t es) (unnamed-step t e.stamp e.op p x c.0 (was_missing t (e ∷ es) (find_text t p.texts) h))
@@ -149,7 +156,8 @@ only_makes (TextInsert t after bytes) = false
 only_makes (TextDelete t range) = false
 only_makes _ = true
 
-made-step : (t : TextId) (s : Stamp) (op : Op) (o : Option Text) → only_makes op ≡ true → text_step s op t o ≡ option_or o (find_text t (made_texts s op))
+made-step : (t : TextId) (s : Stamp) (op : Op) (o : Option Text) → only_makes op ≡ true
+    → text_step s op t o ≡ option_or o (find_text t (made_texts s op))
 made-step t s (Genesis bytes) o h = go (world_at bytes)
   where
     go : (r : Result Contents WorldError) → opened_step s r t o ≡ option_or o (find_text t (texts_from s r))
@@ -187,13 +195,17 @@ others-pass e low high rises = joined low (rising-low e low high rises)
     behind [] a = tt
     behind (f ∷ es) a = (ap not (before_differs_after e.stamp f.stamp a.0), behind es a.1)
 
-    joined : (es : List Edit) → AllByRecursion (λ f. before f.stamp e.stamp ≡ true) es → StampsPass (λ q. not (same_stamp q e.stamp)) (es ++ high)
+    joined : (es : List Edit) → AllByRecursion (λ f. before f.stamp e.stamp ≡ true) es
+        → StampsPass (λ q. not (same_stamp q e.stamp)) (es ++ high)
     joined [] a = behind high (rising-high e low high rises)
     joined (f ∷ es) a = (ap not (before_differs f.stamp e.stamp a.0), joined es a.1)
 
 -- so no other edit makes it
-made-by-none : (t : TextId) (e : Edit) (low high : List Edit) (x : Text) → IsRising (low ++ e ∷ high) → find_text t (made_texts e.stamp e.op) ≡ Some x → find_text t (replay (low ++ high)).texts ≡ None
-made-by-none t e low high x rises is = none_is (find_text t (replay (low ++ high)).texts) (go (has (replay (low ++ high)) (thing.Text t)) refl)
+made-by-none : (t : TextId) (e : Edit) (low high : List Edit) (x : Text) → IsRising (low ++ e ∷ high)
+    → find_text t (made_texts e.stamp e.op) ≡ Some x
+    → find_text t (replay (low ++ high)).texts ≡ None
+made-by-none t e low high x rises is =
+    none_is (find_text t (replay (low ++ high)).texts) (go (has (replay (low ++ high)) (thing.Text t)) refl)
   where
     go : (v : Bool) → has (replay (low ++ high)) (thing.Text t) ≡ v → is_some (find_text t (replay (low ++ high)).texts) ≡ false
     go false v = sym (text-there t (replay (low ++ high))) ∙ v
@@ -202,11 +214,15 @@ made-by-none t e low high x rises is = none_is (find_text t (replay (low ++ high
         absurd (true≢false (sym other ∙ ap not (made-stamp t e.stamp e.op x is)))
 
 -- a text that a late edit makes is as it made it
-steps-made : (t : TextId) (e : Edit) (low high : List Edit) (x : Text) → IsRising (low ++ e ∷ high) → held (low ++ high) ≡ [] → held (low ++ e ∷ high) ≡ [] → only_makes e.op ≡ true → find_text t (made_texts e.stamp e.op) ≡ Some x → find_text t (replay (low ++ e ∷ high)).texts ≡ Some x
+steps-made : (t : TextId) (e : Edit) (low high : List Edit) (x : Text) → IsRising (low ++ e ∷ high) → held (low ++ high) ≡ []
+    → held (low ++ e ∷ high) ≡ [] → only_makes e.op ≡ true → find_text t (made_texts e.stamp e.op) ≡ Some x
+    → find_text t (replay (low ++ e ∷ high)).texts ≡ Some x
 steps-made t e low high x rises none with_it makes is =
-    let all : text_steps t high (text_steps t low None) ≡ None = sym (steps-append t low high None) ∙ sym (replay-steps t (low ++ high) none) ∙ made-by-none t e low high x rises is in
+    let all : text_steps t high (text_steps t low None) ≡ None =
+    sym (steps-append t low high None) ∙ sym (replay-steps t (low ++ high) none) ∙ made-by-none t e low high x rises is in
     let first : text_steps t low None ≡ None = was_missing t high (text_steps t low None) all in
-    let here : text_step e.stamp e.op t (text_steps t low None) ≡ Some x = ap (text_step e.stamp e.op t) first ∙ made-step t e.stamp e.op None makes ∙ is in
+    let here : text_step e.stamp e.op t (text_steps t low None) ≡ Some x =
+    ap (text_step e.stamp e.op t) first ∙ made-step t e.stamp e.op None makes ∙ is in
     replay-steps t (low ++ e ∷ high) with_it ∙ steps-append t low (e ∷ high) None ∙ ap (text_steps t high) here
     ∙ unnamed-steps t high (all_done empty_document low) x (AllCan-tail empty_document low high (AllCan-none_held empty_document (low ++ high) none))
     (ap (text_steps t high) (done-steps t low empty_document) ∙ all)
@@ -217,7 +233,8 @@ in-named : (t : TextId) (ts : List Text) → text_in t (named ts) ≡ option_map
 in-named t [] = refl
 in-named t (x ∷ ts) = go (same_text t x.id) refl (in-named t ts)
   where
-    go : (v : Bool) → same_text t x.id ≡ v → text_in t (named ts) ≡ option_map (λ x. x.elements) (find_text t ts) → cond v (Some x.elements) (text_in t (named ts)) ≡ option_map (λ x. x.elements) (cond (same_text x.id t) (Some x) (find_text t ts))
+    go : (v : Bool) → same_text t x.id ≡ v → text_in t (named ts) ≡ option_map (λ x. x.elements) (find_text t ts)
+        → cond v (Some x.elements) (text_in t (named ts)) ≡ option_map (λ x. x.elements) (cond (same_text x.id t) (Some x) (find_text t ts))
     go true v more =
         let w : same_text x.id t ≡ true = ap (λ d. same_text d t) (sym (same_text-true t x.id v)) ∙ same_text-itself t in
         rw w refl
@@ -254,7 +271,8 @@ module _ (e : Edit) (low high : List Edit) (xs : Elements) (rises : IsRising (lo
         ∙ go t (find_text t (made_texts e.stamp e.op)) refl;
   }
     where
-      go : (t : TextId) (m : Option Text) → find_text t (made_texts e.stamp e.op) ≡ m → option_or (made_elements (replay (low ++ high)) t) (option_map (λ x. x.elements) m) ≡ made_elements (replay (low ++ e ∷ high)) t
+      go : (t : TextId) (m : Option Text) → find_text t (made_texts e.stamp e.op) ≡ m
+          → option_or (made_elements (replay (low ++ high)) t) (option_map (λ x. x.elements) m) ≡ made_elements (replay (low ++ e ∷ high)) t
       go t None is =
           or-nothing (made_elements (replay (low ++ high)) t)
           ∙ sym (ap (option_map (λ x. x.elements)) (steps-beside t e low high none with_it (λ o. made-step t e.stamp e.op o makes ∙ ap (option_or o) is ∙ sym (or-none o))))
@@ -275,7 +293,9 @@ module _ (e : Edit) (low high : List Edit) (xs : Elements) (rises : IsRising (lo
   }
     where
       there_with : has (replay (low ++ e ∷ high)) (thing.Text u) ≡ true
-      there_with = late_edit_makes e low high (thing.Text u) rises none with_it ∙ ap (λ v. v || has (replay (low ++ high)) (thing.Text u)) makes_none ∙ there
+      there_with =
+          late_edit_makes e low high (thing.Text u) rises none with_it ∙ ap (λ v. v || has (replay (low ++ high)) (thing.Text u)) makes_none
+          ∙ there
 
       here : option_map f (text_in u xs) ≡ made_elements (replay (low ++ e ∷ high)) u
       here =
@@ -283,14 +303,20 @@ module _ (e : Edit) (low high : List Edit) (xs : Elements) (rises : IsRising (lo
           ∙ ap Some (sym late)
           ∙ sym (made-there u (replay (low ++ e ∷ high)) there_with)
 
-      go : (t : TextId) (v : Bool) → same_text t u ≡ v → cond v (option_map f (text_in t xs)) (text_in t xs) ≡ made_elements (replay (low ++ e ∷ high)) t
-      go t true v = ap (λ d. option_map f (text_in d xs)) (same_text-true t u v) ∙ here ∙ ap (made_elements (replay (low ++ e ∷ high))) (sym (same_text-true t u v))
-      go t false v = was.each t ∙ sym (ap (option_map (λ x. x.elements)) (steps-beside t e low high none with_it (pass t (apart text_name t u v))))
+      go : (t : TextId) (v : Bool) → same_text t u ≡ v
+          → cond v (option_map f (text_in t xs)) (text_in t xs) ≡ made_elements (replay (low ++ e ∷ high)) t
+      go t true v =
+          ap (λ d. option_map f (text_in d xs)) (same_text-true t u v) ∙ here
+          ∙ ap (made_elements (replay (low ++ e ∷ high))) (sym (same_text-true t u v))
+      go t false v =
+          was.each t ∙ sym (ap (option_map (λ x. x.elements)) (steps-beside t e low high none with_it (pass t (apart text_name t u v))))
 
 abbrev edit_of : Stamp → Op → Edit
 edit_of s op = record { stamp = s; op = op }
 
-op-show : (s : Stamp) (op : Op) (low high : List Edit) (xs : Elements) → IsRising (low ++ edit_of s op ∷ high) → AllFit (edit_of s op ∷ high) → held (low ++ high) ≡ [] → can (replay (low ++ high)) (edit_of s op) ≡ true → TextsShow (low ++ high) xs → TextsShow (low ++ edit_of s op ∷ high) (texts_after s op xs)
+op-show : (s : Stamp) (op : Op) (low high : List Edit) (xs : Elements) → IsRising (low ++ edit_of s op ∷ high)
+    → AllFit (edit_of s op ∷ high) → held (low ++ high) ≡ [] → can (replay (low ++ high)) (edit_of s op) ≡ true → TextsShow (low ++ high) xs
+    → TextsShow (low ++ edit_of s op ∷ high) (texts_after s op xs)
 op-show s (TextInsert u after bytes) low high xs rises fit none h was =
     changed-show (edit_of s (TextInsert u after bytes)) low high xs rises fit none h was u (put_late after s (run_from s 0 bytes)) (λ t b o. rw b refl)
     ((and_parts (has (replay (low ++ high)) (thing.Text u)) (has_all (replay (low ++ high)) (element_named u after)) h).0)
@@ -315,13 +341,17 @@ not-true : (b : Bool) → not b ≡ true → b ≡ false
 not-true true h = absurd (true≢false (sym h))
 not-true false h = refl
 
-stands : (s : Stamp) (u : TextId) (after : Option ElemId) (bytes : List ℕ) (p : Plain) → names_earlier (insertion s u after bytes) ≡ true → has_all p (element_named u after) ≡ true → StandsAfter after s (elements p u)
+stands : (s : Stamp) (u : TextId) (after : Option ElemId) (bytes : List ℕ) (p : Plain) → names_earlier (insertion s u after bytes) ≡ true
+    → has_all p (element_named u after) ≡ true
+    → StandsAfter after s (elements p u)
 stands s u None bytes p h k = tt
 stands s u (Some a) bytes p h k =
     let l = and_parts (before u.name.stamp s) (before a.name.stamp s && true) h in
     ((and_parts (before a.name.stamp s) true l.1).0, (and_parts (has p (thing.Element u a)) true k).0)
 
-op-ready : (s : Stamp) (op : Op) (low high : List Edit) (xs : Elements) → IsRising (low ++ edit_of s op ∷ high) → AllFit (edit_of s op ∷ high) → can (replay (low ++ high)) (edit_of s op) ≡ true → TextsShow (low ++ high) xs → IsReady s op xs
+op-ready : (s : Stamp) (op : Op) (low high : List Edit) (xs : Elements) → IsRising (low ++ edit_of s op ∷ high)
+    → AllFit (edit_of s op ∷ high) → can (replay (low ++ high)) (edit_of s op) ≡ true → TextsShow (low ++ high) xs
+    → IsReady s op xs
 op-ready s (TextInsert u after bytes) low high xs rises fit h was =
     subst (λ ys. StandsAfter after s ys × IsNewStamp s ys) (sym (ap elements_or_none (was.each u ∙ made-there u p k.0)))
     (stands s u after bytes p ((fit_is_each_part e).0 fit.0).2 k.1, all_weaker (λ (x : TextByte). not (same_stamp x.id.name.stamp s) ≡ true) (λ (x : TextByte). same_stamp x.id.name.stamp s ≡ false) (elements p u) (λ x l. not-true (same_stamp x.id.name.stamp s) l) (elements_are_of_edits (λ q. not (same_stamp q s)) (low ++ high) u (others-pass e low high rises)))

@@ -44,7 +44,8 @@ edit_of s op = record { stamp = s; op = op }
 op-made : (s : Stamp) (op : Op) → (step empty_document (edit_of s op)).texts ≡ made_texts s op
 op-made s (Genesis bytes) = opened s (world_at bytes)
 op-made s TextAdd = refl
-op-made s op = held-none (can empty_document (edit_of s op)) (do_edit empty_document (edit_of s op)) (hold empty_document (edit_of s op)) refl refl
+op-made s op =
+    held-none (can empty_document (edit_of s op)) (do_edit empty_document (edit_of s op)) (hold empty_document (edit_of s op)) refl refl
 
 pub texts-made : (e : Edit) → (step empty_document e).texts ≡ made_texts e.stamp e.op
 texts-made e = op-made e.stamp e.op
@@ -63,14 +64,18 @@ run-length s n (b ∷ bytes) = let k = run-length s (n + 1) bytes in omega arith
 abbrev AreShort : List (List ℕ) → Type 0
 AreShort bs = AllByRecursion (λ b. length b < 2 ^ 15) bs
 
-own-short : (s : StatData) (ss : List StatData) (c : Code) (lower : List StatData) → s.code ≡ c → IsNormalCode lower c → AreShort (filter_map own_program ss) → AreShort (filter_map own_program (s ∷ ss))
+own-short : (s : StatData) (ss : List StatData) (c : Code) (lower : List StatData) → s.code ≡ c → IsNormalCode lower c
+    → AreShort (filter_map own_program ss)
+    → AreShort (filter_map own_program (s ∷ ss))
 own-short s ss code.None lower e k a = rw e a
 own-short s ss (code.Own bytes) lower e k a = rw e (k.1, a)
 own-short s ss (code.Same n) lower e k a = rw e a
 
-stats-short : (boards stats : ℕ) (tiles : List Tile) (lower ss : List StatData) → AreNormalStats boards stats tiles lower ss → AreShort (filter_map own_program ss)
+stats-short : (boards stats : ℕ) (tiles : List Tile) (lower ss : List StatData) → AreNormalStats boards stats tiles lower ss
+    → AreShort (filter_map own_program ss)
 stats-short boards stats tiles lower [] a = tt
-stats-short boards stats tiles lower (s ∷ ss) a = own-short s ss s.code lower refl a.0.code (stats-short boards stats tiles (lower ++ s ∷ []) ss a.1)
+stats-short boards stats tiles lower (s ∷ ss) a =
+    own-short s ss s.code lower refl a.0.code (stats-short boards stats tiles (lower ++ s ∷ []) ss a.1)
 
 boards-short : (boards : ℕ) (bs : List BoardData) → AllByRecursion (IsNormalBoard boards) bs → AreShort (programs_of bs)
 boards-short boards [] a = tt
@@ -84,7 +89,8 @@ all-opened n (b ∷ programs) a =
     let short : length b < 32768 = a.0 in
     ((ap (run_from genesis_stamp 0) (sym (own-bytes genesis_stamp 0 b)), omega arith), all-opened (n + 1) programs a.1)
 
-from-opened : ReadIsNormal → (bytes : List ℕ) (r : Result Contents WorldError) → world_at bytes ≡ r → AllByRecursion IsOpened (texts_from genesis_stamp r)
+from-opened : ReadIsNormal → (bytes : List ℕ) (r : Result Contents WorldError) → world_at bytes ≡ r
+    → AllByRecursion IsOpened (texts_from genesis_stamp r)
 from-opened normal bytes (Ok w) h = all-opened 0 (programs_of w.boards) (boards-short (length w.boards) w.boards (normal bytes w h).boards)
 from-opened normal bytes (Err e) h = tt
 

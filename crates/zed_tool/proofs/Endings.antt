@@ -49,7 +49,8 @@ use Rattle.zed_tool.specs.Outcome.{Complained, Hosts, IsComplained, IsLineOf, Pr
 use Rattle.zed_tool.proofs.Steps.{open_so, set_program_so, set_so, show_so, take_so, tell_so}
 
 -- a text was written to the standard error, or the host failed at it
-pub complained : (result : Result ⊤ WriteError) (old new : ℕ) (text : List ℕ) (t : HostContents) (before after : Option HostContents) → before ≡ Some t
+pub complained : (result : Result ⊤ WriteError) (old new : ℕ) (text : List ℕ) (t : HostContents) (before after : Option HostContents)
+    → before ≡ Some t
     → OnOk result (after ≡ Some (with_complaint text t)) → OnErr result (IfSome before (λ t. StillTells (HalfComplained text t) after))
     → Counts (is_err result) old new → IsComplained (Rose old new) text t after
 complained (Ok u) old new text t before after at told half count = inl told
@@ -78,13 +79,15 @@ IsStopped t Comes e left = (left ≡ Some t) × ((e ≡ memory) ⊎ Comes (Err e
 -- ---- commands that only tell
 
 told_done : (p : Type 0) (P Q : Result Told Refusal → Type 0) (t : HostContents) (r : Result ⊤ Refusal) (status : ℕ) (left : Option HostContents)
-    → ((x : Result Told Refusal) → P x → Q x) → EndsTelling p P t r left → Ok status ≡ told_as r → IsDone (Leaves (told_left t) Q) status left
+    → ((x : Result Told Refusal) → P x → Q x) → EndsTelling p P t r left → Ok status ≡ told_as r
+    → IsDone (Leaves (told_left t) Q) status left
 told_done p P Q t (Ok u) status left so is same =
     (told_by is.0 t, (Ok is.0, so (Ok is.0) is.1, ap (λ s. Ok (s, told_by is.0 t)) (status_is status 0 same)), is.2)
 told_done p P Q t (Err e) status left so is same = absurd (cc)
 
 tell_stopped : (p : Type 0) (P Q : Result Told Refusal → Type 0) (t : HostContents) (e : Failure) (f : Refusal) (left : Option HostContents)
-    → ((x : Result Told Refusal) → P x → Q x) → (p → ⊥) → e ≡ Refused f → StillTells (IsToldOff p P t f) left → IsStopped t (Leaves (told_left t) Q) e left
+    → ((x : Result Told Refusal) → P x → Q x) → (p → ⊥) → e ≡ Refused f → StillTells (IsToldOff p P t f) left
+    → IsStopped t (Leaves (told_left t) Q) e left
 tell_stopped p P Q t e f left so never same is = elim is.1 [
   | inl before ↦ (
     is.2 ∙ ap (λ u. Some u) before.0,
@@ -97,20 +100,23 @@ tell_stopped p P Q t e f left so never same is = elim is.1 [
 ]
 
 told_stopped : (p : Type 0) (P Q : Result Told Refusal → Type 0) (t : HostContents) (r : Result ⊤ Refusal) (e : Failure) (left : Option HostContents)
-    → ((x : Result Told Refusal) → P x → Q x) → (p → ⊥) → EndsTelling p P t r left → Err e ≡ told_as r → IsStopped t (Leaves (told_left t) Q) e left
+    → ((x : Result Told Refusal) → P x → Q x) → (p → ⊥) → EndsTelling p P t r left → Err e ≡ told_as r
+    → IsStopped t (Leaves (told_left t) Q) e left
 told_stopped p P Q t (Ok u) e left so never is same = absurd (cc)
 told_stopped p P Q t (Err f) e left so never is same = tell_stopped p P Q t e f left so never (failure_is e (Refused f) same) is
 
 -- ---- commands that draw
 
 drawn_done : (text : List ℕ) (p : Type 0) (P Q : Result Drawn DrawingError → Type 0) (Wrote : List (List ℕ) → Type 0) (t : HostContents) (r : Result ⊤ DrawingError) (status : ℕ) (left : Option HostContents)
-    → ((x : Result Drawn DrawingError) → P x → Q x) → Ends p P Wrote t r left → Ok status ≡ drawn_as text r → IsDone (Leaves (left_by text t) Q) status left
+    → ((x : Result Drawn DrawingError) → P x → Q x) → Ends p P Wrote t r left → Ok status ≡ drawn_as text r
+    → IsDone (Leaves (left_by text t) Q) status left
 drawn_done text p P Q Wrote t (Ok u) status left so is same =
     (drawn_by is.0 t, (Ok is.0, so (Ok is.0) is.1, ap (λ s. Ok (s, drawn_by is.0 t)) (status_is status 0 same)), is.3)
 drawn_done text p P Q Wrote t (Err e) status left so is same = absurd (cc)
 
 draw_stopped : (text : List ℕ) (p : Type 0) (P Q : Result Drawn DrawingError → Type 0) (t : HostContents) (e : Failure) (f : DrawingError) (left : Option HostContents)
-    → ((x : Result Drawn DrawingError) → P x → Q x) → (p → ⊥) → e ≡ drawing_failure text f → StillTells (IsRefused p P t f) left → IsStopped t (Leaves (left_by text t) Q) e left
+    → ((x : Result Drawn DrawingError) → P x → Q x) → (p → ⊥) → e ≡ drawing_failure text f → StillTells (IsRefused p P t f) left
+    → IsStopped t (Leaves (left_by text t) Q) e left
 draw_stopped text p P Q t e f left so never same is = elim is.1 [
   | inl before ↦ (
     is.2 ∙ ap (λ u. Some u) before.0,
@@ -123,14 +129,17 @@ draw_stopped text p P Q t e f left so never same is = elim is.1 [
 ]
 
 drawn_stopped : (text : List ℕ) (p : Type 0) (P Q : Result Drawn DrawingError → Type 0) (Wrote : List (List ℕ) → Type 0) (t : HostContents) (r : Result ⊤ DrawingError) (e : Failure) (left : Option HostContents)
-    → ((x : Result Drawn DrawingError) → P x → Q x) → (p → ⊥) → Ends p P Wrote t r left → Err e ≡ drawn_as text r → IsStopped t (Leaves (left_by text t) Q) e left
+    → ((x : Result Drawn DrawingError) → P x → Q x) → (p → ⊥) → Ends p P Wrote t r left → Err e ≡ drawn_as text r
+    → IsStopped t (Leaves (left_by text t) Q) e left
 drawn_stopped text p P Q Wrote t (Ok u) e left so never is same = absurd (cc)
-drawn_stopped text p P Q Wrote t (Err f) e left so never is same = draw_stopped text p P Q t e f left so never (failure_is e (drawing_failure text f) same) is
+drawn_stopped text p P Q Wrote t (Err f) e left so never is same =
+    draw_stopped text p P Q t e f left so never (failure_is e (drawing_failure text f) same) is
 
 -- ---- `lint`
 
 lint_done : (strictness : Strictness) (p : Type 0) (P Q : Result Told Refusal → Type 0) (t : HostContents) (r : Result ℕ Refusal) (status : ℕ) (left : Option HostContents)
-    → ((x : Result Told Refusal) → P x → Q x) → EndsCounted p P t r left → Ok status ≡ linted_as strictness r → IsDone (Leaves (lint_left strictness t) Q) status left
+    → ((x : Result Told Refusal) → P x → Q x) → EndsCounted p P t r left → Ok status ≡ linted_as strictness r
+    → IsDone (Leaves (lint_left strictness t) Q) status left
 lint_done strictness p P Q t (Ok n) status left so is same =
     let x = Prints is.0 in
     let lines = status_is status (lint_status strictness n) same ∙ ap (lint_status strictness) is.2 in
@@ -138,28 +147,34 @@ lint_done strictness p P Q t (Ok n) status left so is same =
 lint_done strictness p P Q t (Err e) status left so is same = absurd (cc)
 
 -- a refusal leaves what that of `list` leaves
-as_lint : (strictness : Strictness) (t : HostContents) (e : Failure) (left : Option HostContents) (Q : Result Told Refusal → Type 0) → IsStopped t (Leaves (told_left t) Q) e left
+as_lint : (strictness : Strictness) (t : HostContents) (e : Failure) (left : Option HostContents) (Q : Result Told Refusal → Type 0)
+    → IsStopped t (Leaves (told_left t) Q) e left
     → IsStopped t (Leaves (lint_left strictness t) Q) e left
-as_lint strictness t e left Q stops = (stops.0, elim stops.1 [ inl lacks ↦ inl lacks | inr comes ↦ inr (of_refusal comes.0 comes.1 comes.2) ])
+as_lint strictness t e left Q stops =
+    (stops.0, elim stops.1 [ inl lacks ↦ inl lacks | inr comes ↦ inr (of_refusal comes.0 comes.1 comes.2) ])
   where
     of_refusal : (x : Result Told Refusal) → Q x → Err e ≡ told_left t x → Leaves (lint_left strictness t) Q (Err e)
     of_refusal (Ok x) q same = absurd (cc)
     of_refusal (Err f) q same = (Err f, q, same)
 
 lint_stopped : (strictness : Strictness) (p : Type 0) (P Q : Result Told Refusal → Type 0) (t : HostContents) (r : Result ℕ Refusal) (e : Failure) (left : Option HostContents)
-    → ((x : Result Told Refusal) → P x → Q x) → (p → ⊥) → EndsCounted p P t r left → Err e ≡ linted_as strictness r → IsStopped t (Leaves (lint_left strictness t) Q) e left
+    → ((x : Result Told Refusal) → P x → Q x) → (p → ⊥) → EndsCounted p P t r left → Err e ≡ linted_as strictness r
+    → IsStopped t (Leaves (lint_left strictness t) Q) e left
 lint_stopped strictness p P Q t (Ok n) e left so never is same = absurd (cc)
-lint_stopped strictness p P Q t (Err f) e left so never is same = as_lint strictness t e left Q (tell_stopped p P Q t e f left so never (failure_is e (Refused f) same) is)
+lint_stopped strictness p P Q t (Err f) e left so never is same =
+    as_lint strictness t e left Q (tell_stopped p P Q t e f left so never (failure_is e (Refused f) same) is)
 
 -- ---- `set`
 
-set_done : (p : Type 0) (t : HostContents) (file : List ℕ) (replica : ℕ) (words : List (List ℕ)) (wished : Result Wish WrongWord) (status : ℕ) (left : Option HostContents) → (p → ⊥)
+set_done : (p : Type 0) (t : HostContents) (file : List ℕ) (replica : ℕ) (words : List (List ℕ)) (wished : Result Wish WrongWord) (status : ℕ) (left : Option HostContents)
+    → (p → ⊥)
     → EndsSet p t file replica words wished (Ok status) left → IsDone (ComesToSetting ⊥ t file replica words wished) status left
 set_done p t file replica words (Ok wish) status left never is =
     told_done p (ComesToSet p t file replica wish) (ComesToSet ⊥ t file replica wish) t is.0 status left (λ x. set_so p ⊥ t file replica wish x never) is.1 is.2
 set_done p t file replica words (Err bad) status left never is = let wrong = is.0 in absurd (cc)
 
-set_stopped : (p : Type 0) (t : HostContents) (file : List ℕ) (replica : ℕ) (words : List (List ℕ)) (wished : Result Wish WrongWord) (e : Failure) (left : Option HostContents) → (p → ⊥)
+set_stopped : (p : Type 0) (t : HostContents) (file : List ℕ) (replica : ℕ) (words : List (List ℕ)) (wished : Result Wish WrongWord) (e : Failure) (left : Option HostContents)
+    → (p → ⊥)
     → EndsSet p t file replica words wished (Err e) left → IsStopped t (ComesToSetting ⊥ t file replica words wished) e left
 set_stopped p t file replica words (Ok wish) e left never is =
     told_stopped p (ComesToSet p t file replica wish) (ComesToSet ⊥ t file replica wish) t is.0 e left (λ x. set_so p ⊥ t file replica wish x never) never is.1 is.2
@@ -167,13 +182,15 @@ set_stopped p t file replica words (Err bad) e left never is = (is.1, inr (ap (�
 
 -- ---- `play`
 
-play_done : (p : Type 0) (t : HostContents) (q : Request) (moved : Led) (r : Result ⊤ Refusal) (status : ℕ) (left : Option HostContents) → (p → ⊥) → EndsPlay p t q moved r left
+play_done : (p : Type 0) (t : HostContents) (q : Request) (moved : Led) (r : Result ⊤ Refusal) (status : ℕ) (left : Option HostContents)
+    → (p → ⊥) → EndsPlay p t q moved r left
     → Ok status ≡ told_as r → IsDone (Leaves (play_left t q moved) (IsPlayed ⊥ t q moved)) status left
 play_done p t q moved (Ok u) status left never is same =
     (told_after q moved is.0 t, (Ok is.0, played_so p ⊥ t q moved (Ok is.0) never is.1, ap (λ s. Ok (s, told_after q moved is.0 t)) (status_is status 0 same)), is.2)
 play_done p t q moved (Err e) status left never is same = absurd (cc)
 
-play_stopped : (p : Type 0) (t : HostContents) (q : Request) (moved : Led) (r : Result ⊤ Refusal) (e : Failure) (left : Option HostContents) → (p → ⊥) → EndsPlay p t q moved r left
+play_stopped : (p : Type 0) (t : HostContents) (q : Request) (moved : Led) (r : Result ⊤ Refusal) (e : Failure) (left : Option HostContents)
+    → (p → ⊥) → EndsPlay p t q moved r left
     → Err e ≡ told_as r → IsStopped t (Leaves (play_left t q moved) (IsPlayed ⊥ t q moved)) e left
 play_stopped p t q moved (Ok u) e left never is same = absurd (cc)
 play_stopped p t q moved (Err f) e left never is same =
@@ -194,7 +211,8 @@ play_stopped p t q moved (Err f) e left never is same =
 
 -- ---- each command
 
-done : {H : Type 0} (called : H → Call → H → Type 0) (p : Type 0) (moved : Led) (command : Command) (old new : H) (t : HostContents) (status : ℕ) (left : Option HostContents) → (p → ⊥)
+done : {H : Type 0} (called : H → Call → H → Type 0) (p : Type 0) (moved : Led) (command : Command) (old new : H) (t : HostContents) (status : ℕ) (left : Option HostContents)
+    → (p → ⊥)
     → EndsCommand called p moved command old new t (Ok status) left → IsDone (ComesTo ⊥ t moved command) status left
 done called p moved (Open until forcing file world) old new t status left never is =
     drawn_done file p (ComesToOpen p t until (forcing_of forcing) file world) (ComesToOpen ⊥ t until (forcing_of forcing) file world) (Did called (OpenReads (forcing_of forcing) file world) old new) t is.0 status left
@@ -215,7 +233,8 @@ done called p moved (Play going rows words keys board files) old new t status le
     play_done p t (request words keys (going_of going) (rows_of rows) board files) moved is.0 status left never is.1 is.2
 done called p moved (Lint strictness files) old new t status left never is =
     lint_done strictness p (ComesToTell p t lint_of files) (ComesToTell ⊥ t lint_of files) t is.0 status left (λ x. tell_so p ⊥ t lint_of files x never) is.1 is.2
-done called p moved (Set file replica words) old new t status left never is = set_done p t file replica words (wish_of words) status left never is
+done called p moved (Set file replica words) old new t status left never is =
+    set_done p t file replica words (wish_of words) status left never is
 done called p moved (ProgramOf board stat files) old new t status left never is =
     let tell = printed board stat in
     told_done p (ComesToTell p t tell files) (ComesToTell ⊥ t tell files) t is.0 status left (λ x. tell_so p ⊥ t tell files x never) is.1 is.2
@@ -223,7 +242,8 @@ done called p moved (SetProgram file replica board stat text) old new t status l
     drawn_done text p (ComesToSetProgram p t file replica board stat text) (ComesToSetProgram ⊥ t file replica board stat text) (Did called (SetReads file text) old new) t is.0 status left
     (λ x. set_program_so p ⊥ t file replica board stat text x never) is.1 is.2
 
-stopped : {H : Type 0} (called : H → Call → H → Type 0) (p : Type 0) (moved : Led) (command : Command) (old new : H) (t : HostContents) (e : Failure) (left : Option HostContents) → (p → ⊥)
+stopped : {H : Type 0} (called : H → Call → H → Type 0) (p : Type 0) (moved : Led) (command : Command) (old new : H) (t : HostContents) (e : Failure) (left : Option HostContents)
+    → (p → ⊥)
     → EndsCommand called p moved command old new t (Err e) left → IsStopped t (ComesTo ⊥ t moved command) e left
 stopped called p moved (Open until forcing file world) old new t e left never is =
     drawn_stopped file p (ComesToOpen p t until (forcing_of forcing) file world) (ComesToOpen ⊥ t until (forcing_of forcing) file world) (Did called (OpenReads (forcing_of forcing) file world) old new) t is.0 e left
@@ -244,7 +264,8 @@ stopped called p moved (Play going rows words keys board files) old new t e left
     play_stopped p t (request words keys (going_of going) (rows_of rows) board files) moved is.0 e left never is.1 is.2
 stopped called p moved (Lint strictness files) old new t e left never is =
     lint_stopped strictness p (ComesToTell p t lint_of files) (ComesToTell ⊥ t lint_of files) t is.0 e left (λ x. tell_so p ⊥ t lint_of files x never) never is.1 is.2
-stopped called p moved (Set file replica words) old new t e left never is = set_stopped p t file replica words (wish_of words) e left never is
+stopped called p moved (Set file replica words) old new t e left never is =
+    set_stopped p t file replica words (wish_of words) e left never is
 stopped called p moved (ProgramOf board stat files) old new t e left never is =
     let tell = printed board stat in
     told_stopped p (ComesToTell p t tell files) (ComesToTell ⊥ t tell files) t is.0 e left (λ x. tell_so p ⊥ t tell files x never) never is.1 is.2
@@ -252,7 +273,8 @@ stopped called p moved (SetProgram file replica board stat text) old new t e lef
     drawn_stopped text p (ComesToSetProgram p t file replica board stat text) (ComesToSetProgram ⊥ t file replica board stat text) (Did called (SetReads file text) old new) t is.0 e left
     (λ x. set_program_so p ⊥ t file replica board stat text x never) never is.1 is.2
 
-told_calmly : {H : Type 0} (h : Hosts H) (text : List ℕ) (t : HostContents) (old new : H) → NothingFailed (h.faults old) (h.faults new) → h.contents old ≡ Some t → Complained h text old new
+told_calmly : {H : Type 0} (h : Hosts H) (text : List ℕ) (t : HostContents) (old new : H) → NothingFailed (h.faults old) (h.faults new)
+    → h.contents old ≡ Some t → Complained h text old new
     → h.contents new ≡ Some (with_complaint text t)
 told_calmly h text t old new calm at told = elim (told.told t at) [
   | inl is ↦ is
@@ -260,8 +282,10 @@ told_calmly h text t old new calm at told = elim (told.told t at) [
 ]
 
 -- the line of a failure, or that of want of memory
-refused_calmly : (t : HostContents) (moved : Led) (command : Command) (e : Failure) (line : List ℕ) (status : ℕ) (new : Option HostContents) → status ≡ 1
-    → IsLineOf e line → (e ≡ memory) ⊎ ComesTo ⊥ t moved command (Err e) → new ≡ Some (with_complaint line t) → EndsCalmly t moved command status new
+refused_calmly : (t : HostContents) (moved : Led) (command : Command) (e : Failure) (line : List ℕ) (status : ℕ) (new : Option HostContents)
+    → status ≡ 1
+    → IsLineOf e line → (e ≡ memory) ⊎ ComesTo ⊥ t moved command (Err e) → new ≡ Some (with_complaint line t)
+    → EndsCalmly t moved command status new
 refused_calmly t moved command e line status new is tells why left = elim tells [
   | inr lacks ↦ inr (is, left ∙ ap (λ l. Some (with_complaint l t)) lacks.1)
   | inl own ↦ elim why [
@@ -271,7 +295,8 @@ refused_calmly t moved command e line status new is tells why left = elim tells 
 ]
 
 as_calmly : {H : Type 0} (h : Hosts H) (moved : Led) (words : List Text) (command : Command) (t : HostContents) (status : ℕ) (old new : H)
-    → h.contents old ≡ Some t → NothingFailed (h.faults old) (h.faults new) → RunsAs h moved words (Some command) status old new → EndsCalmly t moved command status (h.contents new)
+    → h.contents old ≡ Some t → NothingFailed (h.faults old) (h.faults new) → RunsAs h moved words (Some command) status old new
+    → EndsCalmly t moved command status (h.contents new)
 as_calmly h moved words command t status old new at calm runs = elim runs [
   | inl carried ↦ (
       let ended = done h.called _ moved command old new t status (h.contents new) (no_rise (h.faults old) (h.faults new) (h.faults new) (omega arith) calm) (carried.ends t at) in
@@ -291,8 +316,10 @@ as_calmly h moved words command t status old new at calm runs = elim runs [
       refused_calmly t moved command e tells.0 status (h.contents new) refused.0 tells.1 before.1 (told_calmly h tells.0 t mid new later before.0 tells.2))
 ]
 
-pub run_calmly : {H : Type 0} (h : Hosts H) (moved : Led) (words : List Text) (command : Command) (t : HostContents) (status : ℕ) (old new : H) → command_of words ≡ Some command
-    → h.contents old ≡ Some t → NothingFailed (h.faults old) (h.faults new) → Runs h moved words status old new → EndsCalmly t moved command status (h.contents new)
+pub run_calmly : {H : Type 0} (h : Hosts H) (moved : Led) (words : List Text) (command : Command) (t : HostContents) (status : ℕ) (old new : H)
+    → command_of words ≡ Some command
+    → h.contents old ≡ Some t → NothingFailed (h.faults old) (h.faults new) → Runs h moved words status old new
+    → EndsCalmly t moved command status (h.contents new)
 run_calmly h moved words command t status old new asked at calm runs = elim runs [
   | inl ran ↦ as_calmly h moved words command t status old new at calm (subst (λ c. RunsAs h moved words c status old new) asked ran)
   | inr lacks ↦ inr (lacks.0, told_calmly h (line_of memory) t old new calm at lacks.1)
@@ -320,7 +347,8 @@ found_status : (strictness : Strictness) (n : ℕ) → (lint_status strictness n
 found_status Lenient n = inl refl
 found_status Strict n = zero_or_one (nat_lt 0 n)
 
-linted_status : (strictness : Strictness) (r : Result ℕ Refusal) (status : ℕ) → Ok status ≡ linted_as strictness r → (status ≡ 0) ⊎ (status ≡ 1)
+linted_status : (strictness : Strictness) (r : Result ℕ Refusal) (status : ℕ) → Ok status ≡ linted_as strictness r
+    → (status ≡ 0) ⊎ (status ≡ 1)
 linted_status strictness (Ok n) status same =
     let is = status_is status (lint_status strictness n) same in
     elim (found_status strictness n) [ inl none ↦ inl (is ∙ none) | inr some ↦ inr (is ∙ some) ]
@@ -331,7 +359,8 @@ set_status : {H : Type 0} (called : H → Call → H → Type 0) (file : List �
 set_status called file words (Ok wish) status old new asks = told_status asks.0 status asks.2
 set_status called file words (Err bad) status old new asks = let wrong = asks.0 in absurd (cc)
 
-command_status : {H : Type 0} (called : H → Call → H → Type 0) (command : Command) (status : ℕ) (old new : H) → AsksCommand called command (Ok status) old new
+command_status : {H : Type 0} (called : H → Call → H → Type 0) (command : Command) (status : ℕ) (old new : H)
+    → AsksCommand called command (Ok status) old new
     → (status ≡ 0) ⊎ (status ≡ 1)
 command_status called (Open until forcing file world) status old new asks = drawn_status file asks.0 status asks.2
 command_status called (Take base file replica world) status old new asks = drawn_status file asks.0 status asks.2
@@ -344,7 +373,8 @@ command_status called (Set file replica words) status old new asks = set_status 
 command_status called (ProgramOf board stat files) status old new asks = told_status asks.0 status asks.2
 command_status called (SetProgram file replica board stat text) status old new asks = drawn_status text asks.0 status asks.2
 
-as_accepted : {H : Type 0} (h : Hosts H) (moved : Led) (words : List Text) (command : Option Command) (status : ℕ) (old new : H) → IsSome command → RunsAs h moved words command status old new
+as_accepted : {H : Type 0} (h : Hosts H) (moved : Led) (words : List Text) (command : Option Command) (status : ℕ) (old new : H)
+    → IsSome command → RunsAs h moved words command status old new
     → (status ≡ 0) ⊎ (status ≡ 1)
 as_accepted h moved words None status old new some ran = absurd (cc)
 as_accepted h moved words (Some command) status old new some ran = elim ran [
@@ -352,20 +382,25 @@ as_accepted h moved words (Some command) status old new some ran = elim ran [
   | inr refused ↦ inr refused.0
 ]
 
-pub run_accepted : {H : Type 0} (h : Hosts H) (moved : Led) (words : List Text) (status : ℕ) (old new : H) → IsSome (command_of words) → Runs h moved words status old new → (status ≡ 0) ⊎ (status ≡ 1)
+pub run_accepted : {H : Type 0} (h : Hosts H) (moved : Led) (words : List Text) (status : ℕ) (old new : H) → IsSome (command_of words)
+    → Runs h moved words status old new
+    → (status ≡ 0) ⊎ (status ≡ 1)
 run_accepted h moved words status old new some runs = elim runs [
   | inl ran ↦ as_accepted h moved words (command_of words) status old new some ran
   | inr lacks ↦ inr lacks.0
 ]
 
-printed_status : {H : Type 0} (h : Hosts H) (text : List ℕ) (status : ℕ) (old new : H) → PrintsText h text status old new → (status ≡ 0) ⊎ (status ≡ 1)
+printed_status : {H : Type 0} (h : Hosts H) (text : List ℕ) (status : ℕ) (old new : H) → PrintsText h text status old new
+    → (status ≡ 0) ⊎ (status ≡ 1)
 printed_status h text status old new prints = elim prints [ inl printed ↦ inl printed.0 | inr failed ↦ inr failed.0 ]
 
 no_command : (words : List Text) (k : ErrorKind) → fault_of tool_app words ≡ k ∷ [] → command_of words ≡ None
 unfolding command_of
 no_command words k is = ap (λ (ks : Kinds). unless_refused ks (option_and_then subcommand_asks (subcommand_of tool_app words))) is
 
-pub run_helped : {H : Type 0} (h : Hosts H) (moved : Led) (words : List Text) (status : ℕ) (old new : H) → AsksHelp words → Runs h moved words status old new → (status ≡ 0) ⊎ (status ≡ 1)
+pub run_helped : {H : Type 0} (h : Hosts H) (moved : Led) (words : List Text) (status : ℕ) (old new : H) → AsksHelp words
+    → Runs h moved words status old new
+    → (status ≡ 0) ⊎ (status ≡ 1)
 run_helped h moved words status old new help runs = elim runs [
   | inl ran ↦ elim (subst (λ c. RunsAs h moved words c status old new) (no_command words kind.DisplayHelp help) ran) [
     | inl refused ↦ absurd (refused.1 help)
@@ -384,7 +419,8 @@ no_help kinds is among = elim (subst (λ ks. IsAmong kind.DisplayHelp ks) is amo
   | inr none ↦ none
 ]
 
-pub run_versioned : {H : Type 0} (h : Hosts H) (moved : Led) (words : List Text) (status : ℕ) (old new : H) → AsksVersion words → Runs h moved words status old new
+pub run_versioned : {H : Type 0} (h : Hosts H) (moved : Led) (words : List Text) (status : ℕ) (old new : H) → AsksVersion words
+    → Runs h moved words status old new
     → PrintsText h version_text status old new ⊎ ((status ≡ 1) × Complained h (line_of memory) old new)
 run_versioned h moved words status old new version runs = elim runs [
   | inl ran ↦ elim (subst (λ c. RunsAs h moved words c status old new) (no_command words kind.DisplayVersion version) ran) [
@@ -417,7 +453,9 @@ as_refused h moved words None status old new two ran = elim ran [
 ]
 
 -- status 2 comes with a text
-pub run_refused : {H : Type 0} (h : Hosts H) (moved : Led) (words : List Text) (status : ℕ) (old new : H) → status ≡ 2 → Runs h moved words status old new → TellsAloud h old new
+pub run_refused : {H : Type 0} (h : Hosts H) (moved : Led) (words : List Text) (status : ℕ) (old new : H) → status ≡ 2
+    → Runs h moved words status old new
+    → TellsAloud h old new
 run_refused h moved words status old new two runs = elim runs [
   | inl ran ↦ as_refused h moved words (command_of words) status old new two ran
   | inr lacks ↦ absurd (not_refused status (inr lacks.0) two)

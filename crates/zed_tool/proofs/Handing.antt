@@ -26,34 +26,42 @@ refused_is : (e f : Refusal) → Refused e ≡ Refused f → e ≡ f
 refused_is e f h = cc
 
 -- a failure of the host is told of as such
-told_failures : {H : Type 0} (faults failed : H → ℕ) (r : Result ⊤ Refusal) (old new : H) → TellsTelling faults failed r old new → TellsFailures faults failed (told_as r) old new
+told_failures : {H : Type 0} (faults failed : H → ℕ) (r : Result ⊤ Refusal) (old new : H) → TellsTelling faults failed r old new
+    → TellsFailures faults failed (told_as r) old new
 told_failures faults failed (Ok u) old new tells = (tells.0.0, tells.0.1, tt)
 told_failures faults failed (Err e) old new tells = (tells.0.0, tells.0.1, λ is. tells.1 (refused_is e refusal.File is))
 
-pub told_tells : {H : Type 0} (faults failed : H → ℕ) (r : Result ⊤ Refusal) (answer : Answer) (old new : H) → answer ≡ told_as r → TellsTelling faults failed r old new
+pub told_tells : {H : Type 0} (faults failed : H → ℕ) (r : Result ⊤ Refusal) (answer : Answer) (old new : H) → answer ≡ told_as r
+    → TellsTelling faults failed r old new
     → TellsFailures faults failed answer old new
-told_tells faults failed r answer old new is tells = subst (λ a. TellsFailures faults failed a old new) (sym is) (told_failures faults failed r old new tells)
+told_tells faults failed r answer old new is tells =
+    subst (λ a. TellsFailures faults failed a old new) (sym is) (told_failures faults failed r old new tells)
 
 drawing_is : (text : List ℕ) (e : DrawingError) → drawing_failure text e ≡ file_failed → e ≡ drawing.Refused refusal.File
 drawing_is text (drawing.Refused e) h = ap (λ x. drawing.Refused x) (refused_is e refusal.File h)
 drawing_is text drawing.NotTaken h = absurd (cc)
 drawing_is text (drawing.BadText bad) h = absurd (cc)
 
-drawn_failures : {H : Type 0} (faults failed : H → ℕ) (text : List ℕ) (r : Result ⊤ DrawingError) (old new : H) → TellsDrawing faults failed r old new
+drawn_failures : {H : Type 0} (faults failed : H → ℕ) (text : List ℕ) (r : Result ⊤ DrawingError) (old new : H)
+    → TellsDrawing faults failed r old new
     → TellsFailures faults failed (drawn_as text r) old new
 drawn_failures faults failed text (Ok u) old new tells = (tells.0, tells.1, tt)
 drawn_failures faults failed text (Err e) old new tells = (tells.0, tells.1, λ is. tells.2 (drawing_is text e is))
 
-pub drawn_tells : {H : Type 0} (faults failed : H → ℕ) (text : List ℕ) (r : Result ⊤ DrawingError) (answer : Answer) (old new : H) → answer ≡ drawn_as text r
+pub drawn_tells : {H : Type 0} (faults failed : H → ℕ) (text : List ℕ) (r : Result ⊤ DrawingError) (answer : Answer) (old new : H)
+    → answer ≡ drawn_as text r
     → TellsDrawing faults failed r old new → TellsFailures faults failed answer old new
-drawn_tells faults failed text r answer old new is tells = subst (λ a. TellsFailures faults failed a old new) (sym is) (drawn_failures faults failed text r old new tells)
+drawn_tells faults failed text r answer old new is tells =
+    subst (λ a. TellsFailures faults failed a old new) (sym is) (drawn_failures faults failed text r old new tells)
 
-linted_failures : {H : Type 0} (faults failed : H → ℕ) (strictness : Strictness) (r : Result ℕ Refusal) (old new : H) → TellsTelling faults failed r old new
+linted_failures : {H : Type 0} (faults failed : H → ℕ) (strictness : Strictness) (r : Result ℕ Refusal) (old new : H)
+    → TellsTelling faults failed r old new
     → TellsFailures faults failed (linted_as strictness r) old new
 linted_failures faults failed strictness (Ok n) old new tells = (tells.0.0, tells.0.1, tt)
 linted_failures faults failed strictness (Err e) old new tells = (tells.0.0, tells.0.1, λ is. tells.1 (refused_is e refusal.File is))
 
-pub linted_tells : {H : Type 0} (faults failed : H → ℕ) (strictness : Strictness) (r : Result ℕ Refusal) (answer : Answer) (old new : H) → answer ≡ linted_as strictness r
+pub linted_tells : {H : Type 0} (faults failed : H → ℕ) (strictness : Strictness) (r : Result ℕ Refusal) (answer : Answer) (old new : H)
+    → answer ≡ linted_as strictness r
     → TellsTelling faults failed r old new → TellsFailures faults failed answer old new
 linted_tells faults failed strictness r answer old new is tells =
     subst (λ a. TellsFailures faults failed a old new) (sym is) (linted_failures faults failed strictness r old new tells)
@@ -65,11 +73,14 @@ set_told_as words (Ok u) = refl
 set_told_as words (Err e) = refl
 
 -- what `set` tells is handed on as what other commands tell
-handed_set : (words : List (List ℕ)) (P : Result ⊤ Refusal → Type 0) (r : Result ⊤ SetError) (answer : Answer) → answer ≡ set_as words r → Tells P r → Handed told_as P answer
+handed_set : (words : List (List ℕ)) (P : Result ⊤ Refusal → Type 0) (r : Result ⊤ SetError) (answer : Answer) → answer ≡ set_as words r
+    → Tells P r
+    → Handed told_as P answer
 handed_set words P r answer is tells = (tells.0, tells.1, is ∙ ap (set_as words) tells.2 ∙ set_told_as words tells.0)
 
 -- and a wrong word by itself
-wrong_set : (words : List (List ℕ)) (r : Result ⊤ SetError) (answer : Answer) (bad : WrongWord) → answer ≡ set_as words r → r ≡ Err (setting.BadWord bad)
+wrong_set : (words : List (List ℕ)) (r : Result ⊤ SetError) (answer : Answer) (bad : WrongWord) → answer ≡ set_as words r
+    → r ≡ Err (setting.BadWord bad)
     → answer ≡ Err (wrong_word words bad)
 wrong_set words r answer bad is wrong = is ∙ ap (set_as words) wrong
 
@@ -81,10 +92,12 @@ pub set_ends : {H : Type 0} (contents : H → Option HostContents) (failed : Typ
 set_ends contents failed t file replica words r answer old new at is wrong ends = go (wish_of words) refl
   where
     go : (o : Result Wish WrongWord) → wish_of words ≡ o → EndsSet failed t file replica words o answer (contents new)
-    go (Ok w) wished = handed_set words (λ told. EndsTelling failed (ComesToSet failed t file replica w) t told (contents new)) r answer is (ends w wished)
+    go (Ok w) wished =
+        handed_set words (λ told. EndsTelling failed (ComesToSet failed t file replica w) t told (contents new)) r answer is (ends w wished)
     go (Err b) wished = let all = wrong b wished in (wrong_set words r answer b is all.0, ap contents all.1 ∙ at)
 
-pub set_asks : {H : Type 0} (called : H → Call → H → Type 0) (file : List ℕ) (words : List (List ℕ)) (r : Result ⊤ SetError) (answer : Answer) (old new : H) → answer ≡ set_as words r
+pub set_asks : {H : Type 0} (called : H → Call → H → Type 0) (file : List ℕ) (words : List (List ℕ)) (r : Result ⊤ SetError) (answer : Answer) (old new : H)
+    → answer ≡ set_as words r
     → ((b : WrongWord) → wish_of words ≡ Err b → (r ≡ Err (setting.BadWord b)) × (new ≡ old))
     → ((w : Wish) → wish_of words ≡ Ok w → Tells (λ told. AsksFiles called (reading (file ∷ [])) (writing file) (refusal_in told) old new) r)
     → AsksSet called file words (wish_of words) answer old new
@@ -97,7 +110,8 @@ set_asks called file words r answer old new is wrong asks = go (wish_of words) r
 wrong_is_no_file : (words : List (List ℕ)) (b : WrongWord) → wrong_word words b ≡ file_failed → ⊥
 wrong_is_no_file words b h = cc
 
-no_failures : {H : Type 0} (faults failed : H → ℕ) (words : List (List ℕ)) (b : WrongWord) (answer : Answer) (old new : H) → answer ≡ Err (wrong_word words b) → new ≡ old
+no_failures : {H : Type 0} (faults failed : H → ℕ) (words : List (List ℕ)) (b : WrongWord) (answer : Answer) (old new : H)
+    → answer ≡ Err (wrong_word words b) → new ≡ old
     → TellsFailures faults failed answer old new
 no_failures faults failed words b answer old new is same =
     subst (λ a. TellsFailures faults failed a old new) (sym is)
@@ -106,7 +120,8 @@ no_failures faults failed words b answer old new is same =
     let few : failed old ≤ failed old = omega arith in
     (low, few, λ bad. absurd (wrong_is_no_file words b bad))))
 
-pub set_tells : {H : Type 0} (faults failed : H → ℕ) (words : List (List ℕ)) (r : Result ⊤ SetError) (answer : Answer) (old new : H) → answer ≡ set_as words r
+pub set_tells : {H : Type 0} (faults failed : H → ℕ) (words : List (List ℕ)) (r : Result ⊤ SetError) (answer : Answer) (old new : H)
+    → answer ≡ set_as words r
     → ((b : WrongWord) → wish_of words ≡ Err b → (r ≡ Err (setting.BadWord b)) × (new ≡ old))
     → ((w : Wish) → wish_of words ≡ Ok w → Tells (λ told. TellsTelling faults failed told old new) r)
     → TellsFailures faults failed answer old new

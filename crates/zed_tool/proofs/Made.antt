@@ -23,7 +23,8 @@ use Rattle.zed_tool.specs.Outcome.{Complained, Hosts, Prints, Runs, RunsAs}
 abbrev Made : {H : Type 0} → (H → Call → H → Type 0) → H → H → Type 0
 Made called old new = (calls : List Call) × Leads called calls old new
 
-then_made : {H : Type 0} (called : H → Call → H → Type 0) (old mid new : H) → Made called old mid → Made called mid new → Made called old new
+then_made : {H : Type 0} (called : H → Call → H → Type 0) (old mid new : H) → Made called old mid → Made called mid new
+    → Made called old new
 then_made called old mid new first second = (first.0 ++ second.0, leads_then called first.0 second.0 old mid new first.1 second.1)
 
 drawing_made : {H : Type 0} (called : H → Call → H → Type 0) (Course : List Call → Type 0) (Names : List (List ℕ) → Type 0) (result : Result ⊤ DrawingError) (old new : H)
@@ -35,7 +36,9 @@ drawn_made : {H : Type 0} (called : H → Call → H → Type 0) (text : List �
     → Handed (drawn_as text) (λ r. Asks called Course Names r old new) answer → Made called old new
 drawn_made called text Course Names answer old new handed = drawing_made called Course Names handed.0 old new handed.1
 
-telling_made : {H : Type 0} (called : H → Call → H → Type 0) (files : List (List ℕ)) (answer : Answer) (old new : H) → AsksTold called files answer old new → Made called old new
+telling_made : {H : Type 0} (called : H → Call → H → Type 0) (files : List (List ℕ)) (answer : Answer) (old new : H)
+    → AsksTold called files answer old new
+    → Made called old new
 telling_made called files answer old new handed = let asks = handed.1 in (asks.0, asks.1)
 
 set_made : {H : Type 0} (called : H → Call → H → Type 0) (file : List ℕ) (words : List (List ℕ)) (wished : Result Wish WrongWord) (answer : Answer) (old new : H)
@@ -44,11 +47,14 @@ set_made called file words (Ok wish) answer old new handed = let asks = handed.1
 set_made called file words (Err bad) answer old new wrong = ([], wrong.1)
 
 -- a file that is kept was asked for, or couldn't be had
-sought_made : {H : Type 0} (called : H → Call → H → Type 0) (name : Option (List ℕ)) (old new : H) → Sought called name old new → Made called old new
+sought_made : {H : Type 0} (called : H → Call → H → Type 0) (name : Option (List ℕ)) (old new : H) → Sought called name old new
+    → Made called old new
 sought_made called None old new is = ([], is)
 sought_made called (Some name) old new is = (call (Reading name) is.0 ∷ [], leads_one called (call (Reading name) is.0) old new is.1)
 
-lost_made : {H : Type 0} (called : H → Call → H → Type 0) (name : Option (List ℕ)) (e : Refusal) (old new : H) → IsLost called name e old new → Made called old new
+lost_made : {H : Type 0} (called : H → Call → H → Type 0) (name : Option (List ℕ)) (e : Refusal) (old new : H)
+    → IsLost called name e old new
+    → Made called old new
 lost_made called None e old new is = absurd is
 lost_made called (Some name) e old new is = elim is [
   | inl memory ↦ (call (Reading name) false ∷ [], leads_one called (call (Reading name) false) old new memory.1)
@@ -70,7 +76,9 @@ play_made called words keys files last told old new asks = elim asks [
       ]))
 ]
 
-command_made : {H : Type 0} (called : H → Call → H → Type 0) (command : Command) (answer : Answer) (old new : H) → AsksCommand called command answer old new → Made called old new
+command_made : {H : Type 0} (called : H → Call → H → Type 0) (command : Command) (answer : Answer) (old new : H)
+    → AsksCommand called command answer old new
+    → Made called old new
 command_made called (Open until forcing file world) answer old new asks = drawn_made called file _ _ answer old new asks
 command_made called (Take base file replica world) answer old new asks = drawn_made called file _ _ answer old new asks
 command_made called (Log length board cell replica since files) answer old new asks = telling_made called files answer old new asks
@@ -97,7 +105,9 @@ prints_made h text status old new prints = elim prints [
       then_made h.called old rest.0 new first (told_made h tells.0 rest.0 new tells.2))
 ]
 
-as_made : {H : Type 0} (h : Hosts H) (moved : Led) (words : List Text) (command : Option Command) (status : ℕ) (old new : H) → RunsAs h moved words command status old new → Made h.called old new
+as_made : {H : Type 0} (h : Hosts H) (moved : Led) (words : List Text) (command : Option Command) (status : ℕ) (old new : H)
+    → RunsAs h moved words command status old new
+    → Made h.called old new
 as_made h moved words (Some command) status old new runs = elim runs [
   | inl done ↦ command_made h.called command (Ok status) old new done.asked
   | inr refused ↦ (
@@ -113,7 +123,8 @@ as_made h moved words None status old new runs = elim runs [
   ]
 ]
 
-run_made : {H : Type 0} (h : Hosts H) (moved : Led) (words : List Text) (status : ℕ) (old new : H) → Runs h moved words status old new → Made h.called old new
+run_made : {H : Type 0} (h : Hosts H) (moved : Led) (words : List Text) (status : ℕ) (old new : H) → Runs h moved words status old new
+    → Made h.called old new
 run_made h moved words status old new runs = elim runs [
   | inl ran ↦ as_made h moved words (command_of words) status old new ran
   | inr memory ↦ told_made h _ old new memory.1

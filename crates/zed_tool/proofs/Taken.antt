@@ -46,7 +46,8 @@ written_is_read one whole n es found bytes p small good text own reads sound =
     let same = one bytes found es p (record { asked = p.asked; world = Some n; version = text.version; rest = []; fault = None }) refl sound (λ bad. let no : None ≡ Some file.Memory = bad in cc) reads there in
     (same.0, ap ending same.1, ap (λ (q : Progress). q.world) same.1)
 
-file_is : WrittenIsRead → (asked : Option ℕ) (n : ℕ) (es found : List Edit) (bytes : List ℕ) (end : Result ℕ EditFileError) → n < 2 ^ 64 → AreRecords es → IsTextOf n es bytes → is_other asked n ≡ false
+file_is : WrittenIsRead → (asked : Option ℕ) (n : ℕ) (es found : List Edit) (bytes : List ℕ) (end : Result ℕ EditFileError) → n < 2 ^ 64
+    → AreRecords es → IsTextOf n es bytes → is_other asked n ≡ false
     → IsFile asked bytes found end → (found ≡ es) × (end ≡ Ok n)
 file_is law asked n es found bytes end small good text own file =
     let read = law n es found bytes file.progress small good text (ap (λ a. is_other a n) file.asks ∙ own) file.reads file.sound in
@@ -70,7 +71,8 @@ same_world n = go (n == n) refl
 no_clash : (es : List Edit) (c : Stamp) → Agrees es → IsFirstClash es c → ⊥
 no_clash es c agrees clash =
     let other = clash.clashes in
-    let left : Contains es other.0 = subst (λ l. Contains l other.0) (sym clash.whole) (Contains-append_left clash.before (clash.edit ∷ clash.after) other.0 other.1) in
+    let left : Contains es other.0 =
+    subst (λ l. Contains l other.0) (sym clash.whole) (Contains-append_left clash.before (clash.edit ∷ clash.after) other.0 other.1) in
     let here : Contains (clash.edit ∷ clash.after) clash.edit = (0, omega arith, refl) in
     let right : Contains es clash.edit = subst (λ l. Contains l clash.edit) (sym clash.whole) (Contains-append_right clash.before (clash.edit ∷ clash.after) clash.edit here) in
     other.3 (agrees other.0 clash.edit left right other.2)
@@ -87,15 +89,20 @@ sets_agree es fs a e f m n s =
     (Contains-append_right es fs f ((set_has_its_edits fs (agree_right es fs a) f).0 n)) s
 
 -- a step that went well, and what followed it
-then_ok : {X Y : Type 0} (N : X → Result Y DrawingError → Type 0) (m : Result X DrawingError) (x : X) (r : Result Y DrawingError) → m ≡ Ok x → Then m N r → N x r
+then_ok : {X Y : Type 0} (N : X → Result Y DrawingError → Type 0) (m : Result X DrawingError) (x : X) (r : Result Y DrawingError) → m ≡ Ok x
+    → Then m N r
+    → N x r
 then_ok N m x r is after = subst (λ m. Then m N r) is after
 
 -- one that was refused
-then_err : {X Y : Type 0} (N : X → Result Y DrawingError → Type 0) (m : Result X DrawingError) (e : DrawingError) (r : Result Y DrawingError) → m ≡ Err e → Then m N r → r ≡ Err e
+then_err : {X Y : Type 0} (N : X → Result Y DrawingError → Type 0) (m : Result X DrawingError) (e : DrawingError) (r : Result Y DrawingError)
+    → m ≡ Err e → Then m N r
+    → r ≡ Err e
 then_err N m e r is after = subst (λ m. Then m N r) is after
 
 -- a file that is there, and spells edits, opens as their set
-bytes_opened : WrittenIsRead → (asked : Option ℕ) (n : ℕ) (es : List Edit) (bytes : List ℕ) (m : Result FileEdits DrawingError) → n < 2 ^ 64 → AreRecords es → Agrees es
+bytes_opened : WrittenIsRead → (asked : Option ℕ) (n : ℕ) (es : List Edit) (bytes : List ℕ) (m : Result FileEdits DrawingError) → n < 2 ^ 64
+    → AreRecords es → Agrees es
     → is_other asked n ≡ false → IsTextOf n es bytes → IsOpened asked bytes m → m ≡ Ok (n, set_of es)
 bytes_opened law asked n es bytes m small good agrees own text opened =
     let file = opened.1 in
@@ -107,28 +114,35 @@ bytes_opened law asked n es bytes m small good agrees own text opened =
     ] in
     opened.2 ∙ told
 
-file_opened : WrittenIsRead → (asked : Option ℕ) (n : ℕ) (es : List Edit) (read : Option (List ℕ)) (m : Result FileEdits DrawingError) → n < 2 ^ 64 → AreRecords es → Agrees es
+file_opened : WrittenIsRead → (asked : Option ℕ) (n : ℕ) (es : List Edit) (read : Option (List ℕ)) (m : Result FileEdits DrawingError)
+    → n < 2 ^ 64 → AreRecords es → Agrees es
     → is_other asked n ≡ false → IsTextIn n es read → OfFile (IsOpened asked) read m → m ≡ Ok (n, set_of es)
 file_opened law asked n es None m small good agrees own text opened = absurd text
-file_opened law asked n es (Some bytes) m small good agrees own text opened = bytes_opened law asked n es bytes m small good agrees own text opened
+file_opened law asked n es (Some bytes) m small good agrees own text opened =
+    bytes_opened law asked n es bytes m small good agrees own text opened
 
 read_calmly : (t : HostContents) (name : List ℕ) (read : Option (List ℕ)) → IsRead ⊥ t name read → read ≡ file_in t name
 read_calmly t name read is = elim is [ inl held ↦ held | inr failed ↦ absurd failed.0 ]
 
-name_opened : WrittenIsRead → (asked : Option ℕ) (n : ℕ) (es : List Edit) (t : HostContents) (name : List ℕ) (m : Result FileEdits DrawingError) → n < 2 ^ 64 → AreRecords es → Agrees es
+name_opened : WrittenIsRead
+    → (asked : Option ℕ) (n : ℕ) (es : List Edit) (t : HostContents) (name : List ℕ) (m : Result FileEdits DrawingError) → n < 2 ^ 64
+    → AreRecords es → Agrees es
     → is_other asked n ≡ false → IsTextIn n es (file_in t name) → OpensAs ⊥ t asked name m → m ≡ Ok (n, set_of es)
 name_opened law asked n es t name m small good agrees own text opens =
     file_opened law asked n es (file_in t name) m small good agrees own text
     (subst (λ read. OfFile (IsOpened asked) read m) (read_calmly t name opens.0 opens.1) opens.2)
 
 -- the base beside the world file
-beside_found : WrittenIsRead → (n : ℕ) (es : List Edit) (read : Option (List ℕ)) (m : Result (Option (List Edit)) DrawingError) → n < 2 ^ 64 → AreRecords es → Agrees es
+beside_found : WrittenIsRead → (n : ℕ) (es : List Edit) (read : Option (List ℕ)) (m : Result (Option (List Edit)) DrawingError) → n < 2 ^ 64
+    → AreRecords es → Agrees es
     → IsTextIn n es read → OfBase n read m → m ≡ Ok (Some (set_of es))
 beside_found law n es None m small good agrees text found = absurd text
 beside_found law n es (Some bytes) m small good agrees text found =
     then_ok HasEdits found.0 (n, set_of es) m (bytes_opened law (Some n) n es bytes found.0 small good agrees (same_world n) text found.1) found.2
 
-base_found : WrittenIsRead → (n : ℕ) (es : List Edit) (t : HostContents) (word : Option (List ℕ)) (name : List ℕ) (m : Result (Option (List Edit)) DrawingError) → n < 2 ^ 64
+base_found : WrittenIsRead
+    → (n : ℕ) (es : List Edit) (t : HostContents) (word : Option (List ℕ)) (name : List ℕ) (m : Result (Option (List Edit)) DrawingError)
+    → n < 2 ^ 64
     → AreRecords es → Agrees es → IsTextIn n es (file_in t name) → ReadsBase ⊥ t (presence_of word) name n m → m ≡ Ok (Some (set_of es))
 base_found law n es t (Some word) name m small good agrees text found =
     then_ok HasEdits found.0 (n, set_of es) m (name_opened law (Some n) n es t name found.0 small good agrees (same_world n) text found.1) found.2
@@ -138,20 +152,23 @@ base_found law n es t None name m small good agrees text found =
       | inr failed ↦ absurd failed.0
     ]
 
-world_read : (t : HostContents) (world bytes : List ℕ) (shown : Contents) (m : Result Contents DrawingError) → file_in t world ≡ Some bytes → world_at bytes ≡ Ok shown
+world_read : (t : HostContents) (world bytes : List ℕ) (shown : Contents) (m : Result Contents DrawingError) → file_in t world ≡ Some bytes
+    → world_at bytes ≡ Ok shown
     → ReadsAs ⊥ t world m → m ≡ Ok shown
 world_read t world bytes shown m there reads is =
     subst (λ read. OfFile IsWorld read m) (read_calmly t world is.0 is.1 ∙ there) is.2 ∙ ap world_told reads
 
 -- what is read
-gathered : WrittenIsRead → (words : List (List ℕ)) (t : HostContents) (name file : List ℕ) (replica number : ℕ) (own based : List Edit) (shown : Contents) (m : Result Given DrawingError)
+gathered : WrittenIsRead
+    → (words : List (List ℕ)) (t : HostContents) (name file : List ℕ) (replica number : ℕ) (own based : List Edit) (shown : Contents) (m : Result Given DrawingError)
     → (asks : AsksToTake words t name file replica number own based shown)
     → Gathers ⊥ t (presence_of asks.base) name file asks.world m → m ≡ Ok (given (number, set_of own) (Some (set_of based)) shown)
 gathered law words t name file replica number own based shown m asks gathers =
     let presence = presence_of asks.base in
     let first = name_opened law None number own t file gathers.0 asks.is_number (records_left own based asks.records) (agree_left own based asks.agree) refl asks.spelled gathers.1 in
     let rest = then_ok _ gathers.0 (number, set_of own) m first gathers.2 in
-    let finds : ReadsBase ⊥ t presence name number rest.0 = subst (λ b. MatchBool b (rest.0 ≡ Ok None) (ReadsBase ⊥ t presence name number rest.0)) asks.other rest.1 in
+    let finds : ReadsBase ⊥ t presence name number rest.0 =
+    subst (λ b. MatchBool b (rest.0 ≡ Ok None) (ReadsBase ⊥ t presence name number rest.0)) asks.other rest.1 in
     let second = base_found law number based t asks.base name rest.0 asks.is_number (records_right own based asks.records) (agree_right own based asks.agree) asks.base_spelled finds in
     let last = then_ok _ rest.0 (Some (set_of based)) m second rest.2 in
     let third = world_read t asks.world asks.bytes shown last.0 asks.there asks.reads last.1 in
@@ -163,7 +180,8 @@ DrawsSet name file replica number own based shown r =
     (k : _) × IsTaken (union own based) based shown replica k
     × Then k (λ new r. r ≡ Ok (drawn name file (given (number, own) (Some based) shown) (union own based) new)) r
 
-draws_set : (name file : List ℕ) (replica number : ℕ) (own based : List Edit) (shown : Contents) (r : Result Effect DrawingError) → Agree own based
+draws_set : (name file : List ℕ) (replica number : ℕ) (own based : List Edit) (shown : Contents) (r : Result Effect DrawingError)
+    → Agree own based
     → Draws name file replica (given (number, own) (Some based) shown) r → DrawsSet name file replica number own based shown r
 unfolding Draws IsJoined
 draws_set name file replica number own based shown r agree draws =
@@ -186,13 +204,15 @@ taken_set name file t replica number own based shown x status new draws has = el
       inr (inl (none.0, none.1, subst (λ x. HasStatus (left_by file t x) t status new) is has)))
 ]
 
-draws_of : WrittenIsRead → (words : List (List ℕ)) (t : HostContents) (name file : List ℕ) (replica number : ℕ) (own based : List Edit) (shown : Contents) (x : Result Effect DrawingError)
+draws_of : WrittenIsRead
+    → (words : List (List ℕ)) (t : HostContents) (name file : List ℕ) (replica number : ℕ) (own based : List Edit) (shown : Contents) (x : Result Effect DrawingError)
     → (asks : AsksToTake words t name file replica number own based shown) → ComesToTake ⊥ t asks.base file replica asks.world x
     → DrawsSet name file replica number (set_of own) (set_of based) shown x
 unfolding TakesFrom
 draws_of law words t name file replica number own based shown x asks comes =
     let presence = presence_of asks.base in
-    let from : TakesFrom ⊥ t presence name file replica asks.world x = subst (λ n. TakesFrom ⊥ t presence n file replica asks.world x) (sym asks.is_base) comes in
+    let from : TakesFrom ⊥ t presence name file replica asks.world x =
+    subst (λ n. TakesFrom ⊥ t presence n file replica asks.world x) (sym asks.is_base) comes in
     let at : Steps (Gathers ⊥ t presence name file asks.world) (Draws name file replica) x =
     subst (λ b. MatchBool b (x ≡ Err (Refused (refusal.BadEdit cause.Stamp))) (Steps (Gathers ⊥ t presence name file asks.world) (Draws name file replica) x))
     (ne_eqb replica 0 asks.is_author) from in
@@ -206,9 +226,11 @@ EndsTaking t base file replica world status new =
     ⊎ HasStatus (Err memory) t status new
 
 -- and `run` ends so
-pub run_takes : WrittenIsRead → (words : List (List ℕ)) (t : HostContents) (name file : List ℕ) (replica number : ℕ) (own based : List Edit) (shown : Contents) (status : ℕ)
+pub run_takes : WrittenIsRead
+    → (words : List (List ℕ)) (t : HostContents) (name file : List ℕ) (replica number : ℕ) (own based : List Edit) (shown : Contents) (status : ℕ)
     (new : Option HostContents) → (asks : AsksToTake words t name file replica number own based shown)
-    → EndsTaking t asks.base file replica asks.world status new → TakesSet name file t replica number (set_of own) (set_of based) shown status new
+    → EndsTaking t asks.base file replica asks.world status new
+    → TakesSet name file t replica number (set_of own) (set_of based) shown status new
 run_takes law words t name file replica number own based shown status new asks ended = elim ended [
   | inl done ↦ (
       let comes = done.1 in

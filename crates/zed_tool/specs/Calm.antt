@@ -68,11 +68,13 @@ ComesToSetting failed t file replica words (Err bad) ending = ending ≡ Err (wr
 
 -- what a command comes to, with devices that were led so: a status with what its host holds then, or the first refusal
 abbrev pub ComesTo : Type 0 → HostContents → Led → Command → Ending → Type 0
-ComesTo failed t moved (Open until forcing file world) ending = Leaves (left_by file t) (ComesToOpen failed t until (forcing_of forcing) file world) ending
+ComesTo failed t moved (Open until forcing file world) ending =
+    Leaves (left_by file t) (ComesToOpen failed t until (forcing_of forcing) file world) ending
 ComesTo failed t moved (Take base file replica world) ending = Leaves (left_by file t) (ComesToTake failed t base file replica world) ending
 ComesTo failed t moved (Log length board cell replica since files) ending =
     Leaves (told_left t) (ComesToTell failed t (log_of (length_of length) (filter_of board cell replica since)) files) ending
-ComesTo failed t moved (Lists listing files) ending = Leaves (told_left t) (ComesToTell failed t (list_of (listing_of listing)) files) ending
+ComesTo failed t moved (Lists listing files) ending =
+    Leaves (told_left t) (ComesToTell failed t (list_of (listing_of listing)) files) ending
 ComesTo failed t moved (Show form board files) ending = Leaves (told_left t) (ComesToShow failed t (form_of form) board files) ending
 ComesTo failed t moved (Play going rows words keys board files) ending =
     let q = request words keys (going_of going) (rows_of rows) board files in
@@ -80,7 +82,8 @@ ComesTo failed t moved (Play going rows words keys board files) ending =
 ComesTo failed t moved (Lint strictness files) ending = Leaves (lint_left strictness t) (ComesToTell failed t lint_of files) ending
 ComesTo failed t moved (Set file replica words) ending = ComesToSetting failed t file replica words (wish_of words) ending
 ComesTo failed t moved (ProgramOf board stat files) ending = Leaves (told_left t) (ComesToTell failed t (printed board stat) files) ending
-ComesTo failed t moved (SetProgram file replica board stat text) ending = Leaves (left_by text t) (ComesToSetProgram failed t file replica board stat text) ending
+ComesTo failed t moved (SetProgram file replica board stat text) ending =
+    Leaves (left_by text t) (ComesToSetProgram failed t file replica board stat text) ending
 
 -- the status, and what the host holds then; a refusal has status 1 and a line
 abbrev pub HasStatus : Ending → HostContents → ℕ → Option HostContents → Type 0

@@ -127,14 +127,18 @@ EndsCommand called failed moved (Take base file replica world) old new t answer 
     (Did called (TakeReads (presence_of base) (base_word base world) file world) old new) t r left) answer
 EndsCommand called failed moved (Log length board cell replica since files) old new t answer left =
     EndsTold failed (ComesToTell failed t (log_of (length_of length) (filter_of board cell replica since)) files) t answer left
-EndsCommand called failed moved (Lists listing files) old new t answer left = EndsTold failed (ComesToTell failed t (list_of (listing_of listing)) files) t answer left
-EndsCommand called failed moved (Show form board files) old new t answer left = EndsTold failed (ComesToShow failed t (form_of form) board files) t answer left
+EndsCommand called failed moved (Lists listing files) old new t answer left =
+    EndsTold failed (ComesToTell failed t (list_of (listing_of listing)) files) t answer left
+EndsCommand called failed moved (Show form board files) old new t answer left =
+    EndsTold failed (ComesToShow failed t (form_of form) board files) t answer left
 EndsCommand called failed moved (Play going rows words keys board files) old new t answer left =
     Handed told_as (λ r. EndsPlay failed t (request words keys (going_of going) (rows_of rows) board files) moved r left) answer
 EndsCommand called failed moved (Lint strictness files) old new t answer left =
     Handed (linted_as strictness) (λ r. EndsCounted failed (ComesToTell failed t lint_of files) t r left) answer
-EndsCommand called failed moved (Set file replica words) old new t answer left = EndsSet failed t file replica words (wish_of words) answer left
-EndsCommand called failed moved (ProgramOf board stat files) old new t answer left = EndsTold failed (ComesToTell failed t (printed board stat) files) t answer left
+EndsCommand called failed moved (Set file replica words) old new t answer left =
+    EndsSet failed t file replica words (wish_of words) answer left
+EndsCommand called failed moved (ProgramOf board stat files) old new t answer left =
+    EndsTold failed (ComesToTell failed t (printed board stat) files) t answer left
 EndsCommand called failed moved (SetProgram file replica board stat text) old new t answer left =
     Handed (drawn_as text) (λ r. Ends failed (ComesToSetProgram failed t file replica board stat text)
     (Did called (SetReads file text) old new) t r left) answer

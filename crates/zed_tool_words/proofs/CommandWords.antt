@@ -33,10 +33,13 @@ top_level words w = or_else (walk_fault top names (walk_from nothing_held) words
 pub record Enters (name : Text) (s : Shape) : Type 0 where
   pub word : walked top.rules names (walk_from nothing_held) name ≡ stopped_at name []
   pub fault : turn_fault top names (walk_from nothing_held) name ≡ []
-  pub ends : (rest : List Text) → top_level (name ∷ rest) (stopped_at name rest) ≡ rest_level s rest (walk_fault top names (walk_from nothing_held) (name ∷ rest))
-  pub rows : (rest : List Text) → entered (built tool_app) (Some (name, rest)) ≡ Some (name, finished s.rules (walk s.rules [] nothing_held rest).held)
+  pub ends : (rest : List Text)
+      → top_level (name ∷ rest) (stopped_at name rest) ≡ rest_level s rest (walk_fault top names (walk_from nothing_held) (name ∷ rest))
+  pub rows : (rest : List Text)
+      → entered (built tool_app) (Some (name, rest)) ≡ Some (name, finished s.rules (walk s.rules [] nothing_held rest).held)
 
-top_walk : (name : Text) (s : Shape) (rest : List Text) → Enters name s → walk top.rules names nothing_held (name ∷ rest) ≡ stopped_at name rest
+top_walk : (name : Text) (s : Shape) (rest : List Text) → Enters name s
+    → walk top.rules names nothing_held (name ∷ rest) ≡ stopped_at name rest
 top_walk name s rest enters =
     ap (λ w. fold (walked top.rules names) w rest) enters.word
     ∙ sym (walk_stopped top.rules names (walk_from nothing_held) name [] rest)
@@ -47,8 +50,10 @@ top_fault name s rest enters = ap₂ or_else enters.fault
     (ap (λ w. walk_fault top names w rest) enters.word
     ∙ stopped_fault top names (walk_from nothing_held) (name, []) rest)
 
-sub_fault : (name : Text) (s : Shape) (rest : List Text) → Enters name s → fault_of tool_app (name ∷ rest) ≡ level_fault s [] nothing_held rest false []
-sub_fault name s rest enters = ap (top_level (name ∷ rest)) (top_walk name s rest enters) ∙ enters.ends rest ∙ ap (rest_level s rest) (top_fault name s rest enters)
+sub_fault : (name : Text) (s : Shape) (rest : List Text) → Enters name s
+    → fault_of tool_app (name ∷ rest) ≡ level_fault s [] nothing_held rest false []
+sub_fault name s rest enters =
+    ap (top_level (name ∷ rest)) (top_walk name s rest enters) ∙ enters.ends rest ∙ ap (rest_level s rest) (top_fault name s rest enters)
     ∙ or_nothing (level_fault s [] nothing_held rest false [])
 
 sub_rows : (name : Text) (s : Shape) (rest : List Text) → Enters name s

@@ -68,7 +68,8 @@ asks Lenient file files = refl
 asks Strict file files = refl
 
 -- `lint FILES...`, where no word begins with a hyphen, with `--strict` perhaps in front
-pub lint_words : (strictness : Strictness) (file : Text) (files : List Text) → list_all is_plain (file ∷ files) ≡ true → length (file ∷ files) ≤ usize_max
+pub lint_words : (strictness : Strictness) (file : Text) (files : List Text) → list_all is_plain (file ∷ files) ≡ true
+    → length (file ∷ files) ≤ usize_max
     → command_of (codes "lint" ∷ strict_words strictness ++ file ∷ files) ≡ Some (Lint strictness (file ∷ files))
 lint_words strictness file files plain few =
     asked_by (codes "lint") shape (strict_words strictness ++ file ∷ files) (at_files strictness (file ∷ files)) (Some (Lint strictness (file ∷ files))) enters

@@ -31,7 +31,8 @@ enters = record { word = refl; fault = refl; ends = ends; rows = λ rest. refl }
 abbrev at_words : List Text → Walk
 at_words words = several_at [] (codes "WORDS") 1 words
 
-leads : (word : Text) (words : List Text) → list_all is_plain (word ∷ words) ≡ true → Leads shape (walk_from nothing_held) (word ∷ words) (at_words (word ∷ words))
+leads : (word : Text) (words : List Text) → list_all is_plain (word ∷ words) ≡ true
+    → Leads shape (walk_from nothing_held) (word ∷ words) (at_words (word ∷ words))
 leads word words plain =
     let p = both _ _ plain in
     word_leads shape nothing_held idle 1 word words (at_words (word ∷ [])) (at_words (word ∷ words)) p.0
@@ -52,21 +53,25 @@ asked : (word : Text) (words : List Text) → list_all is_plain (word ∷ words)
 asked word words plain few =
     asked_by (codes "list") shape (word ∷ words) (at_words (word ∷ words)) (list_words (word ∷ words)) enters (leads word words plain) (end word words few) (asks word words)
 
-pub boards_listed : (file : Text) (files : List Text) → is_decimal file ≡ false → list_all is_plain (file ∷ files) ≡ true → length (file ∷ files) ≤ usize_max
+pub boards_listed : (file : Text) (files : List Text) → is_decimal file ≡ false → list_all is_plain (file ∷ files) ≡ true
+    → length (file ∷ files) ≤ usize_max
     → command_of (codes "list" ∷ file ∷ files) ≡ Some (Lists Boards (file ∷ files))
 boards_listed file files named plain few = asked file files plain few ∙ rw named refl
 
 -- a number more in front is plain too
-more_plain : (number : Text) (words : List Text) (n : ℕ) → number_of 16 number ≡ Some n → list_all is_plain words ≡ true → list_all is_plain (number ∷ words) ≡ true
+more_plain : (number : Text) (words : List Text) (n : ℕ) → number_of 16 number ≡ Some n → list_all is_plain words ≡ true
+    → list_all is_plain (number ∷ words) ≡ true
 more_plain number words n is plain = ap₂ (λ a b. a && b) (number_plain 16 number n is) plain
 
-pub stats_listed : (number file : Text) (files : List Text) (board : ℕ) → is_decimal number ≡ true → number_of 16 number ≡ Some board → is_decimal file ≡ false
+pub stats_listed : (number file : Text) (files : List Text) (board : ℕ) → is_decimal number ≡ true → number_of 16 number ≡ Some board
+    → is_decimal file ≡ false
     → list_all is_plain (file ∷ files) ≡ true → length (number ∷ file ∷ files) ≤ usize_max
     → command_of (codes "list" ∷ number ∷ file ∷ files) ≡ Some (Lists (Stats board) (file ∷ files))
 stats_listed number file files board digits is named plain few =
     asked number (file ∷ files) (more_plain number (file ∷ files) board is plain) few ∙ rw (digits, is, named) refl
 
-pub program_listed : (number other file : Text) (files : List Text) (board stat : ℕ) → is_decimal number ≡ true → number_of 16 number ≡ Some board
+pub program_listed : (number other file : Text) (files : List Text) (board stat : ℕ) → is_decimal number ≡ true
+    → number_of 16 number ≡ Some board
     → is_decimal other ≡ true → number_of 16 other ≡ Some stat
     → list_all is_plain (file ∷ files) ≡ true → length (number ∷ other ∷ file ∷ files) ≤ usize_max
     → command_of (codes "list" ∷ number ∷ other ∷ file ∷ files) ≡ Some (Lists (Program board stat) (file ∷ files))

@@ -44,7 +44,8 @@ abbrev pub Writes : Filter → Type 0
 Writes Every = Unit {0}
 Writes InFull = Unit {0}
 Writes (OfBoard word board) = number_of 16 word ≡ Some board
-Writes (OfCell word column row board x y) = (number_of 16 word ≡ Some board) × (number_within 1 60 column ≡ Some x) × (number_within 1 25 row ≡ Some y)
+Writes (OfCell word column row board x y) =
+    (number_of 16 word ≡ Some board) × (number_within 1 60 column ≡ Some x) × (number_within 1 25 row ≡ Some y)
 Writes (OfReplica word replica) = number_of 16 word ≡ Some replica
 Writes (Since word time) = number_of 64 word ≡ Some time
 
@@ -115,7 +116,8 @@ files_lead filter file files is plain =
 within_plain : (low high : ℕ) (word : Text) (n : ℕ) → number_within low high word ≡ Some n → is_plain word ≡ true
 within_plain low high word n is = go (number_of 16 word) refl is
   where
-    go : (o : Option ℕ) → number_of 16 word ≡ o → option_and_then (λ m. if nat_le low m && nat_le m high then Some m else None) o ≡ Some n → is_plain word ≡ true
+    go : (o : Option ℕ) → number_of 16 word ≡ o → option_and_then (λ m. if nat_le low m && nat_le m high then Some m else None) o ≡ Some n
+        → is_plain word ≡ true
     go None read none = absurd (cc)
     go (Some m) read some = number_plain 16 word m read
 
@@ -162,7 +164,8 @@ leads (OfCell word column row board x y) file files is plain =
     (word_leads shape two (option name) 1 row (file ∷ files) (going (filter_held filter) idle 1) to (within_plain 1 25 row y is.2)
     (record { none = refl; fits = refl; goes = refl }) (files_lead filter file files is plain))))
 
-end : (filter : Filter) (file : Text) (files : List Text) → length (file ∷ files) ≤ usize_max → after_words shape (at_files filter (file ∷ files)).held ≡ []
+end : (filter : Filter) (file : Text) (files : List Text) → length (file ∷ files) ≤ usize_max
+    → after_words shape (at_files filter (file ∷ files)).held ≡ []
 unfolding clap_on_literals
 end Every file files few = several_end (file ∷ files) (omega arith) few
 end InFull file files few = several_end (file ∷ files) (omega arith) few

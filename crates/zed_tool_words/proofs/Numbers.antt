@@ -20,7 +20,8 @@ digits_from (d ∷ ds) h = let two = both _ _ h in (ltb-true _ _ two.0, digits_f
 abbrev pub IsNumber : ℕ → Text → Type 0
 IsNumber k text = IsNumeral 10 (without_leading_plus text) × (digits_value 10 (without_leading_plus text) < 2 ^ k)
 
-pub number_read : (k : ℕ) (text : Text) (n : ℕ) → IsNumber k text → n ≡ digits_value 10 (without_leading_plus text) → Some n ≡ number_of k text
+pub number_read : (k : ℕ) (text : Text) (n : ℕ) → IsNumber k text → n ≡ digits_value 10 (without_leading_plus text)
+    → Some n ≡ number_of k text
 number_read k text n is value =
     let ds = without_leading_plus text in
     rw (lt-ltb 0 (length ds) is.0.0, digits_pass ds is.0.1, lt-ltb (digits_value 10 ds) (2 ^ k) is.1) (ap (λ m. Some m) value)

@@ -120,7 +120,8 @@ end (Some time) Careful file world = refl
 end (Some time) Forced file world = refl
 
 asks : (until : Option Text) (forcing : Forcing) (file world : Text)
-    → subcommand_asks (codes "open", finished shape.rules (at_world until forcing file world).held) ≡ Some (Open (option_and_then (number_of 64) until) forcing file world)
+    → subcommand_asks (codes "open", finished shape.rules (at_world until forcing file world).held)
+    ≡ Some (Open (option_and_then (number_of 64) until) forcing file world)
 asks None Careful file world = refl
 asks None Forced file world = refl
 asks (Some time) Careful file world = refl

@@ -28,7 +28,8 @@ refused k [] o h = absurd h
 refused k (x ∷ ks) o h = refl
 
 -- words that have one
-pub wanted_with_fault : (words : List Text) (e : Error) → HasKind (fault_of tool_app words) e → kind_of e ≢ kind.OutOfMemory → command_of words ≡ None
+pub wanted_with_fault : (words : List Text) (e : Error) → HasKind (fault_of tool_app words) e → kind_of e ≢ kind.OutOfMemory
+    → command_of words ≡ None
 unfolding command_of
 wanted_with_fault words e has other = elim has [
   | inl memory ↦ absurd (other memory)
@@ -42,7 +43,8 @@ alone j k h = elim h [
 ]
 
 -- a fault that is no such answer
-pub no_answer_with_fault : (k : ErrorKind) (words : List Text) (e : Error) → HasKind (fault_of tool_app words) e → kind_of e ≢ kind.OutOfMemory → kind_of e ≢ k
+pub no_answer_with_fault : (k : ErrorKind) (words : List Text) (e : Error) → HasKind (fault_of tool_app words) e
+    → kind_of e ≢ kind.OutOfMemory → kind_of e ≢ k
     → ¬ (fault_of tool_app words ≡ k ∷ [])
 no_answer_with_fault k words e has other unlike is = elim has [
   | inl memory ↦ other memory
@@ -50,7 +52,8 @@ no_answer_with_fault k words e has other unlike is = elim has [
 ]
 
 -- and one that is
-pub answer_with_fault : (k : ErrorKind) (words : List Text) (e : Error) → HasKind (fault_of tool_app words) e → kind_of e ≢ kind.OutOfMemory → kind_of e ≡ k
+pub answer_with_fault : (k : ErrorKind) (words : List Text) (e : Error) → HasKind (fault_of tool_app words) e → kind_of e ≢ kind.OutOfMemory
+    → kind_of e ≡ k
     → IsAmong k (fault_of tool_app words)
 answer_with_fault k words e has other is = elim has [
   | inl memory ↦ absurd (other memory)

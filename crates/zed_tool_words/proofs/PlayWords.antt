@@ -54,7 +54,8 @@ front_words OverBoards = codes "--boards" ∷ []
 front_words (InRows word rows) = codes "--rows" ∷ word ∷ []
 front_words (ByWords words) = codes "--words" ∷ words ∷ []
 front_words (ByKeys keys) = codes "--keys" ∷ keys ∷ []
-front_words (Kept going word words keys rows) = going_words going ++ codes "--rows" ∷ word ∷ codes "--words" ∷ words ∷ codes "--keys" ∷ keys ∷ []
+front_words (Kept going word words keys rows) =
+    going_words going ++ codes "--rows" ∷ word ∷ codes "--words" ∷ words ∷ codes "--keys" ∷ keys ∷ []
 
 abbrev pub asked_with : Front → ℕ → List Text → Command
 asked_with Alone board files = Play Stays None None None board files
@@ -125,13 +126,17 @@ takes_first : (front : Front) (board file : Text) (n : ℕ) → is_plain board �
     → Takes shape (at_board front board).held idle 2 file (at_files front board (file ∷ []))
 takes_first Alone board file n plain is = record { none = refl; fits = rw (number_accepted board n plain is) refl; goes = refl }
 takes_first OverBoards board file n plain is = record { none = refl; fits = rw (number_accepted board n plain is) refl; goes = refl }
-takes_first (InRows word rows) board file n plain is = record { none = refl; fits = rw (number_accepted board n plain is) refl; goes = refl }
+takes_first (InRows word rows) board file n plain is =
+    record { none = refl; fits = rw (number_accepted board n plain is) refl; goes = refl }
 takes_first (ByWords words) board file n plain is = record { none = refl; fits = rw (number_accepted board n plain is) refl; goes = refl }
 takes_first (ByKeys keys) board file n plain is = record { none = refl; fits = rw (number_accepted board n plain is) refl; goes = refl }
-takes_first (Kept Stays word words keys rows) board file n plain is = record { none = refl; fits = rw (number_accepted board n plain is) refl; goes = refl }
-takes_first (Kept On word words keys rows) board file n plain is = record { none = refl; fits = rw (number_accepted board n plain is) refl; goes = refl }
+takes_first (Kept Stays word words keys rows) board file n plain is =
+    record { none = refl; fits = rw (number_accepted board n plain is) refl; goes = refl }
+takes_first (Kept On word words keys rows) board file n plain is =
+    record { none = refl; fits = rw (number_accepted board n plain is) refl; goes = refl }
 
-words_lead : (front : Front) (board file : Text) (files : List Text) (n : ℕ) → Writes front → number_of 16 board ≡ Some n → list_all is_plain (file ∷ files) ≡ true
+words_lead : (front : Front) (board file : Text) (files : List Text) (n : ℕ) → Writes front → number_of 16 board ≡ Some n
+    → list_all is_plain (file ∷ files) ≡ true
     → Leads shape (going (front_held front) idle 1) (board ∷ file ∷ files) (at_files front board (file ∷ files))
 words_lead front board file files n writes is plain =
     let number = number_plain 16 board n is in
@@ -144,7 +149,8 @@ words_lead front board file files n writes is plain =
     (several_lead shape (rows_before front board) (codes "FILES") 2 (λ values word. record { none = refl; fits = refl; goes = refl }) (file ∷ []) files p.1))
 
 -- all three options
-kept_lead_alone : (word words keys board file : Text) (files : List Text) (rows n : ℕ) → Writes (Kept Stays word words keys rows) → number_of 16 board ≡ Some n → list_all is_plain (file ∷ files) ≡ true
+kept_lead_alone : (word words keys board file : Text) (files : List Text) (rows n : ℕ) → Writes (Kept Stays word words keys rows)
+    → number_of 16 board ≡ Some n → list_all is_plain (file ∷ files) ≡ true
     → Leads shape (walk_from nothing_held) (codes "--rows" ∷ word ∷ codes "--words" ∷ words ∷ codes "--keys" ∷ keys ∷ board ∷ file ∷ files) (at_files (Kept Stays word words keys rows) board (file ∷ files))
 unfolding clap_on_literals
 kept_lead_alone word words keys board file files rows n writes is plain =
@@ -169,7 +175,8 @@ kept_lead_alone word words keys board file files rows n writes is plain =
     (record { none = refl; fits = refl; goes = refl }) (words_lead front board file files n writes is plain))))))
 
 -- the same behind the flag
-kept_lead_over : (word words keys board file : Text) (files : List Text) (rows n : ℕ) → Writes (Kept On word words keys rows) → number_of 16 board ≡ Some n → list_all is_plain (file ∷ files) ≡ true
+kept_lead_over : (word words keys board file : Text) (files : List Text) (rows n : ℕ) → Writes (Kept On word words keys rows)
+    → number_of 16 board ≡ Some n → list_all is_plain (file ∷ files) ≡ true
     → Leads shape (going (going_held On) idle 1) (codes "--rows" ∷ word ∷ codes "--words" ∷ words ∷ codes "--keys" ∷ keys ∷ board ∷ file ∷ files) (at_files (Kept On word words keys rows) board (file ∷ files))
 unfolding clap_on_literals
 kept_lead_over word words keys board file files rows n writes is plain =
@@ -193,7 +200,8 @@ kept_lead_over word words keys board file files rows n writes is plain =
     (word_leads shape third (option (codes "keys")) 1 keys rest (going (front_held front) idle 1) to writes.2
     (record { none = refl; fits = refl; goes = refl }) (words_lead front board file files n writes is plain))))))
 
-leads : (front : Front) (board file : Text) (files : List Text) (n : ℕ) → Writes front → number_of 16 board ≡ Some n → list_all is_plain (file ∷ files) ≡ true
+leads : (front : Front) (board file : Text) (files : List Text) (n : ℕ) → Writes front → number_of 16 board ≡ Some n
+    → list_all is_plain (file ∷ files) ≡ true
     → Leads shape (walk_from nothing_held) (front_words front ++ board ∷ file ∷ files) (at_files front board (file ∷ files))
 unfolding clap_on_literals
 leads Alone board file files n writes is plain = words_lead Alone board file files n writes is plain
@@ -221,14 +229,16 @@ leads (ByKeys keys) board file files n writes is plain =
     more_lead shape (walk_from nothing_held) (going waiting (option (codes "keys")) 1) to (codes "--keys") (keys ∷ board ∷ file ∷ files) refl refl
     (word_leads shape waiting (option (codes "keys")) 1 keys (board ∷ file ∷ files) (going (front_held front) idle 1) to writes
     (record { none = refl; fits = refl; goes = refl }) (words_lead front board file files n writes is plain))
-leads (Kept Stays word words keys rows) board file files n writes is plain = kept_lead_alone word words keys board file files rows n writes is plain
+leads (Kept Stays word words keys rows) board file files n writes is plain =
+    kept_lead_alone word words keys board file files rows n writes is plain
 leads (Kept On word words keys rows) board file files n writes is plain =
     let rest = board ∷ file ∷ files in
     more_lead shape (walk_from nothing_held) (going (going_held On) idle 1) (at_files (Kept On word words keys rows) board (file ∷ files)) (codes "--boards")
     (codes "--rows" ∷ word ∷ codes "--words" ∷ words ∷ codes "--keys" ∷ keys ∷ rest) refl refl
     (kept_lead_over word words keys board file files rows n writes is plain)
 
-end : (front : Front) (board file : Text) (files : List Text) → length (file ∷ files) ≤ usize_max → after_words shape (at_files front board (file ∷ files)).held ≡ []
+end : (front : Front) (board file : Text) (files : List Text) → length (file ∷ files) ≤ usize_max
+    → after_words shape (at_files front board (file ∷ files)).held ≡ []
 unfolding clap_on_literals
 end Alone board file files few = several_end (file ∷ files) (omega arith) few
 end OverBoards board file files few = several_end (file ∷ files) (omega arith) few
@@ -239,7 +249,8 @@ end (Kept Stays word words keys rows) board file files few = several_end (file �
 end (Kept On word words keys rows) board file files few = several_end (file ∷ files) (omega arith) few
 
 asks : (front : Front) (board file : Text) (files : List Text) (n : ℕ) → Writes front → is_plain board ≡ true → number_of 16 board ≡ Some n
-    → subcommand_asks (codes "play", finished shape.rules (at_files front board (file ∷ files)).held) ≡ Some (asked_with front n (file ∷ files))
+    → subcommand_asks (codes "play", finished shape.rules (at_files front board (file ∷ files)).held)
+    ≡ Some (asked_with front n (file ∷ files))
 asks Alone board file files n writes plain is = rw (number_as_written board plain) (rw is refl)
 asks OverBoards board file files n writes plain is = rw (number_as_written board plain) (rw is refl)
 asks (InRows word rows) board file files n writes plain is =
@@ -252,8 +263,10 @@ asks (Kept On word words keys rows) board file files n writes plain is =
     rw (number_as_written board plain, number_as_written word (number_plain 16 word rows writes.0)) (rw (is, writes.0) refl)
 
 -- `play BOARD FILES...`, where no file's word begins with a hyphen, with options perhaps in front
-pub play_words : (front : Front) (board file : Text) (files : List Text) (n : ℕ) → Writes front → number_of 16 board ≡ Some n → list_all is_plain (file ∷ files) ≡ true
-    → length (file ∷ files) ≤ usize_max → command_of (codes "play" ∷ front_words front ++ board ∷ file ∷ files) ≡ Some (asked_with front n (file ∷ files))
+pub play_words : (front : Front) (board file : Text) (files : List Text) (n : ℕ) → Writes front → number_of 16 board ≡ Some n
+    → list_all is_plain (file ∷ files) ≡ true
+    → length (file ∷ files) ≤ usize_max
+    → command_of (codes "play" ∷ front_words front ++ board ∷ file ∷ files) ≡ Some (asked_with front n (file ∷ files))
 play_words front board file files n writes is plain few =
     asked_by (codes "play") shape (front_words front ++ board ∷ file ∷ files) (at_files front board (file ∷ files)) (Some (asked_with front n (file ∷ files))) enters
     (leads front board file files n writes is plain) (end front board file files few) (asks front board file files n writes (number_plain 16 board n is) is)

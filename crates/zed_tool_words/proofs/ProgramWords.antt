@@ -59,29 +59,34 @@ leads true word words plain =
     more_lead shape (walk_from nothing_held) (going (flag_held true) idle 1) (at_words true (word ∷ words)) (codes "--set") (word ∷ words) refl refl
     (words_lead true word words plain)
 
-end : (puts : Bool) (word : Text) (words : List Text) → length (word ∷ words) ≤ usize_max → after_words shape (at_words puts (word ∷ words)).held ≡ []
+end : (puts : Bool) (word : Text) (words : List Text) → length (word ∷ words) ≤ usize_max
+    → after_words shape (at_words puts (word ∷ words)).held ≡ []
 unfolding clap_on_literals
 end false word words few = several_end (word ∷ words) (omega arith) few
 end true word words few = several_end (word ∷ words) (omega arith) few
 
 asks : (puts : Bool) (word : Text) (words : List Text)
-    → subcommand_asks (codes "program", finished shape.rules (at_words puts (word ∷ words)).held) ≡ cond puts (set_program_words (word ∷ words)) (program_words (word ∷ words))
+    → subcommand_asks (codes "program", finished shape.rules (at_words puts (word ∷ words)).held)
+    ≡ cond puts (set_program_words (word ∷ words)) (program_words (word ∷ words))
 asks false word words = refl
 asks true word words = refl
 
 -- `program WORDS...`, where no word begins with a hyphen, with `--set` perhaps in front
 asked : (puts : Bool) (word : Text) (words : List Text) → list_all is_plain (word ∷ words) ≡ true → length (word ∷ words) ≤ usize_max
-    → command_of (codes "program" ∷ flag_words puts ++ word ∷ words) ≡ cond puts (set_program_words (word ∷ words)) (program_words (word ∷ words))
+    → command_of (codes "program" ∷ flag_words puts ++ word ∷ words)
+    ≡ cond puts (set_program_words (word ∷ words)) (program_words (word ∷ words))
 asked puts word words plain few =
     asked_by (codes "program") shape (flag_words puts ++ word ∷ words) (at_words puts (word ∷ words))
     (cond puts (set_program_words (word ∷ words)) (program_words (word ∷ words))) enters
     (leads puts word words plain) (end puts word words few) (asks puts word words)
 
 -- a number more in front is plain too
-more_plain : (number : Text) (words : List Text) (n : ℕ) → number_of 16 number ≡ Some n → list_all is_plain words ≡ true → list_all is_plain (number ∷ words) ≡ true
+more_plain : (number : Text) (words : List Text) (n : ℕ) → number_of 16 number ≡ Some n → list_all is_plain words ≡ true
+    → list_all is_plain (number ∷ words) ≡ true
 more_plain number words n is plain = ap₂ (λ a b. a && b) (number_plain 16 number n is) plain
 
-pub program_told : (number other file : Text) (files : List Text) (board stat : ℕ) → number_of 16 number ≡ Some board → number_of 16 other ≡ Some stat
+pub program_told : (number other file : Text) (files : List Text) (board stat : ℕ) → number_of 16 number ≡ Some board
+    → number_of 16 other ≡ Some stat
     → list_all is_plain (file ∷ files) ≡ true → length (number ∷ other ∷ file ∷ files) ≤ usize_max
     → command_of (codes "program" ∷ number ∷ other ∷ file ∷ files) ≡ Some (ProgramOf board stat (file ∷ files))
 program_told number other file files board stat is other_is plain few =
@@ -89,9 +94,11 @@ program_told number other file files board stat is other_is plain few =
     asked false number words (more_plain number words board is (more_plain other (file ∷ files) stat other_is plain)) few
     ∙ rw (is, other_is) refl
 
-pub program_put : (file author number other text : Text) (replica board stat : ℕ) → number_of 16 author ≡ Some replica → number_of 16 number ≡ Some board
+pub program_put : (file author number other text : Text) (replica board stat : ℕ) → number_of 16 author ≡ Some replica
+    → number_of 16 number ≡ Some board
     → number_of 16 other ≡ Some stat → list_all is_plain (file ∷ text ∷ []) ≡ true
-    → command_of (codes "program" ∷ codes "--set" ∷ file ∷ author ∷ number ∷ other ∷ text ∷ []) ≡ Some (SetProgram file replica board stat text)
+    → command_of (codes "program" ∷ codes "--set" ∷ file ∷ author ∷ number ∷ other ∷ text ∷ [])
+    ≡ Some (SetProgram file replica board stat text)
 program_put file author number other text replica board stat by is other_is plain =
     let p = both _ _ plain in
     let last = more_plain other (text ∷ []) stat other_is p.1 in

@@ -40,7 +40,8 @@ rows_before path replica = row_by (codes "FILE") reading.AsWritten path ∷ row_
 abbrev at_words : Text → Text → List Text → Walk
 at_words path replica words = record (several_at (rows_before path replica) (codes "WORDS") 3 words) { is_trailing = true }
 
-more_words : (path replica : Text) (words more : List Text) → Leads shape (at_words path replica words) more (at_words path replica (words ++ more))
+more_words : (path replica : Text) (words more : List Text)
+    → Leads shape (at_words path replica words) more (at_words path replica (words ++ more))
 unfolding clap_on_literals
 more_words path replica words [] = rw (append-nil words) (none_lead shape (at_words path replica words))
 more_words path replica words (word ∷ more) =
@@ -62,7 +63,8 @@ leads path replica word more n is plain =
     (record { none = refl; fits = rw (number_accepted replica n (number_plain 16 replica n is) is) refl; goes = refl })
     (more_words path replica (word ∷ []) more)))
 
-end : (path replica word : Text) (more : List Text) → length (word ∷ more) ≤ usize_max → after_words shape (at_words path replica (word ∷ more)).held ≡ []
+end : (path replica word : Text) (more : List Text) → length (word ∷ more) ≤ usize_max
+    → after_words shape (at_words path replica (word ∷ more)).held ≡ []
 unfolding clap_on_literals
 end path replica word more few = several_end (word ∷ more) (omega arith) few
 
@@ -71,7 +73,8 @@ asks : (path replica word : Text) (more : List Text) (n : ℕ) → number_of 16 
 asks path replica word more n is = rw (number_as_written replica (number_plain 16 replica n is)) (rw is refl)
 
 -- `set FILE REPLICA WORDS...`, where neither the file's word nor the first of the others begins with a hyphen
-pub set_words : (path replica word : Text) (more : List Text) (n : ℕ) → number_of 16 replica ≡ Some n → list_all is_plain (path ∷ word ∷ []) ≡ true
+pub set_words : (path replica word : Text) (more : List Text) (n : ℕ) → number_of 16 replica ≡ Some n
+    → list_all is_plain (path ∷ word ∷ []) ≡ true
     → length (word ∷ more) ≤ usize_max → command_of (codes "set" ∷ path ∷ replica ∷ word ∷ more) ≡ Some (Set path n (word ∷ more))
 set_words path replica word more n is plain few =
     asked_by (codes "set") shape (path ∷ replica ∷ word ∷ more) (at_words path replica (word ∷ more)) (Some (Set path n (word ∷ more))) enters

@@ -55,7 +55,8 @@ takes_first Coloured board file n plain is = record { none = refl; fits = rw (nu
 takes_first Plain board file n plain is = record { none = refl; fits = rw (number_accepted board n plain is) refl; goes = refl }
 takes_first Svg board file n plain is = record { none = refl; fits = rw (number_accepted board n plain is) refl; goes = refl }
 
-words_lead : (form : Form) (board file : Text) (files : List Text) (n : ℕ) → number_of 16 board ≡ Some n → list_all is_plain (file ∷ files) ≡ true
+words_lead : (form : Form) (board file : Text) (files : List Text) (n : ℕ) → number_of 16 board ≡ Some n
+    → list_all is_plain (file ∷ files) ≡ true
     → Leads shape (going (form_held form) idle 1) (board ∷ file ∷ files) (at_files form board (file ∷ files))
 words_lead form board file files n is plain =
     let number = number_plain 16 board n is in
@@ -67,7 +68,8 @@ words_lead form board file files n is plain =
     (takes_first form board file n number is)
     (several_lead shape (rows_before form board) (codes "FILES") 2 (λ values word. record { none = refl; fits = refl; goes = refl }) (file ∷ []) files p.1))
 
-leads : (form : Form) (board file : Text) (files : List Text) (n : ℕ) → number_of 16 board ≡ Some n → list_all is_plain (file ∷ files) ≡ true
+leads : (form : Form) (board file : Text) (files : List Text) (n : ℕ) → number_of 16 board ≡ Some n
+    → list_all is_plain (file ∷ files) ≡ true
     → Leads shape (walk_from nothing_held) (form_words form ++ board ∷ file ∷ files) (at_files form board (file ∷ files))
 unfolding clap_on_literals
 leads Coloured board file files n is plain = words_lead Coloured board file files n is plain
@@ -78,7 +80,8 @@ leads Svg board file files n is plain =
     more_lead shape (walk_from nothing_held) (going (form_held Svg) idle 1) (at_files Svg board (file ∷ files)) (codes "--svg") (board ∷ file ∷ files) refl refl
     (words_lead Svg board file files n is plain)
 
-end : (form : Form) (board file : Text) (files : List Text) → length (file ∷ files) ≤ usize_max → after_words shape (at_files form board (file ∷ files)).held ≡ []
+end : (form : Form) (board file : Text) (files : List Text) → length (file ∷ files) ≤ usize_max
+    → after_words shape (at_files form board (file ∷ files)).held ≡ []
 unfolding clap_on_literals
 end Coloured board file files few = several_end (file ∷ files) (omega arith) few
 end Plain board file files few = several_end (file ∷ files) (omega arith) few
@@ -91,8 +94,10 @@ asks Plain board file files n plain is = rw (number_as_written board plain) (rw 
 asks Svg board file files n plain is = rw (number_as_written board plain) (rw is refl)
 
 -- `show BOARD FILES...`, where no file's word begins with a hyphen, with `--plain` or `--svg` perhaps in front
-pub show_words : (form : Form) (board file : Text) (files : List Text) (n : ℕ) → number_of 16 board ≡ Some n → list_all is_plain (file ∷ files) ≡ true
-    → length (file ∷ files) ≤ usize_max → command_of (codes "show" ∷ form_words form ++ board ∷ file ∷ files) ≡ Some (Show form n (file ∷ files))
+pub show_words : (form : Form) (board file : Text) (files : List Text) (n : ℕ) → number_of 16 board ≡ Some n
+    → list_all is_plain (file ∷ files) ≡ true
+    → length (file ∷ files) ≤ usize_max
+    → command_of (codes "show" ∷ form_words form ++ board ∷ file ∷ files) ≡ Some (Show form n (file ∷ files))
 show_words form board file files n is plain few =
     asked_by (codes "show") shape (form_words form ++ board ∷ file ∷ files) (at_files form board (file ∷ files)) (Some (Show form n (file ∷ files))) enters
     (leads form board file files n is plain) (end form board file files few) (asks form board file files n (number_plain 16 board n is) is)

@@ -53,7 +53,8 @@ takes_file : (base : Option Text) (file : Text) → Takes shape (base_held base)
 takes_file None file = record { none = refl; fits = refl; goes = refl }
 takes_file (Some base) file = record { none = refl; fits = refl; goes = refl }
 
-takes_replica : (base : Option Text) (file replica : Text) → Takes shape (at_file base file).held idle 2 replica (at_replica base file replica)
+takes_replica : (base : Option Text) (file replica : Text)
+    → Takes shape (at_file base file).held idle 2 replica (at_replica base file replica)
 takes_replica None file replica = record { none = refl; fits = refl; goes = refl }
 takes_replica (Some base) file replica = record { none = refl; fits = refl; goes = refl }
 
@@ -61,9 +62,11 @@ takes_replica (Some base) file replica = record { none = refl; fits = refl; goes
 takes_world : (base : Option Text) (file replica world : Text) (n : ℕ) → is_plain replica ≡ true → number_of 16 replica ≡ Some n
     → Takes shape (at_replica base file replica).held idle 3 world (at_world base file replica world)
 takes_world None file replica world n plain is = record { none = refl; fits = rw (number_accepted replica n plain is) refl; goes = refl }
-takes_world (Some base) file replica world n plain is = record { none = refl; fits = rw (number_accepted replica n plain is) refl; goes = refl }
+takes_world (Some base) file replica world n plain is =
+    record { none = refl; fits = rw (number_accepted replica n plain is) refl; goes = refl }
 
-words_lead : (base : Option Text) (file replica world : Text) (n : ℕ) → number_of 16 replica ≡ Some n → list_all is_plain (file ∷ world ∷ []) ≡ true
+words_lead : (base : Option Text) (file replica world : Text) (n : ℕ) → number_of 16 replica ≡ Some n
+    → list_all is_plain (file ∷ world ∷ []) ≡ true
     → Leads shape (going (base_held base) idle 1) (file ∷ replica ∷ world ∷ []) (at_world base file replica world)
 words_lead base file replica world n is plain =
     let number = number_plain 16 replica n is in
@@ -74,7 +77,8 @@ words_lead base file replica world n is plain =
     (word_leads shape (at_file base file).held idle 2 replica (world ∷ []) (at_replica base file replica) to number (takes_replica base file replica)
     (word_leads shape (at_replica base file replica).held idle 3 world [] to to q.0 (takes_world base file replica world n number is) (none_lead shape to)))
 
-leads : (base : Option Text) (file replica world : Text) (n : ℕ) → number_of 16 replica ≡ Some n → IfSome base (λ word. is_plain word ≡ true)
+leads : (base : Option Text) (file replica world : Text) (n : ℕ) → number_of 16 replica ≡ Some n
+    → IfSome base (λ word. is_plain word ≡ true)
     → list_all is_plain (file ∷ world ∷ []) ≡ true
     → Leads shape (walk_from nothing_held) (option_words (codes "--base") base ++ file ∷ replica ∷ world ∷ []) (at_world base file replica world)
 unfolding clap_on_literals
@@ -98,7 +102,8 @@ asks None file replica world n plain is = rw (number_as_written replica plain) (
 asks (Some base) file replica world n plain is = rw (number_as_written replica plain) (rw is refl)
 
 -- `take FILE REPLICA WORLD`, where no word begins with a hyphen, with `--base BASE` perhaps in front
-pub take_words : (base : Option Text) (file replica world : Text) (n : ℕ) → number_of 16 replica ≡ Some n → IfSome base (λ word. is_plain word ≡ true)
+pub take_words : (base : Option Text) (file replica world : Text) (n : ℕ) → number_of 16 replica ≡ Some n
+    → IfSome base (λ word. is_plain word ≡ true)
     → list_all is_plain (file ∷ world ∷ []) ≡ true
     → command_of (codes "take" ∷ option_words (codes "--base") base ++ file ∷ replica ∷ world ∷ []) ≡ Some (Take base file n world)
 take_words base file replica world n is plain_base plain =

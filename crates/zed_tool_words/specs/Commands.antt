@@ -31,7 +31,9 @@ use Rattle.zed_tool_words.specs.Grammar.{tool_app}
 pub data Command : Type 0 where
   Open : (until : Option ℕ) → (forcing : Forcing) → (file : Text) → (world : Text) → Command
   Take : (base : Option Text) → (file : Text) → (replica : ℕ) → (world : Text) → Command
-  Log : (length : Length) → (board : Option ℕ) → (cell : Option (ℕ × ℕ × ℕ)) → (replica : Option ℕ) → (since : Option ℕ) → (files : List Text) → Command
+  Log : (length : Length) → (board : Option ℕ) → (cell : Option (ℕ × ℕ × ℕ)) → (replica : Option ℕ) → (since : Option ℕ)
+      → (files : List Text)
+      → Command
   Lists : (listing : Listing) → (files : List Text) → Command
   Show : (form : Form) → (board : ℕ) → (files : List Text) → Command
   Play : (going : Going) → (rows : Option ℕ) → (words : Option Text) → (keys : Option Text) → (board : ℕ) → (files : List Text) → Command

@@ -58,7 +58,8 @@ LogInFull = Filters (codes "--full" ∷ []) Full None None None None
 
 -- with `--board B` for those of board B
 abbrev pub LogOfBoard : Type 0
-LogOfBoard = (word : Text) (board : ℕ) → number_of 16 word ≡ Some board → Filters (codes "--board" ∷ word ∷ []) Short (Some board) None None None
+LogOfBoard =
+    (word : Text) (board : ℕ) → number_of 16 word ≡ Some board → Filters (codes "--board" ∷ word ∷ []) Short (Some board) None None None
 
 -- with `--cell B X Y` for those of this cell
 abbrev pub LogOfCell : Type 0
@@ -198,7 +199,8 @@ SetsProgram =
     (file author number other text : Text) (replica board stat : ℕ)
     → number_of 16 author ≡ Some replica → number_of 16 number ≡ Some board → number_of 16 other ≡ Some stat
     → list_all is_plain (file ∷ text ∷ []) ≡ true
-    → command_of (codes "program" ∷ codes "--set" ∷ file ∷ author ∷ number ∷ other ∷ text ∷ []) ≡ Some (SetProgram file replica board stat text)
+    → command_of (codes "program" ∷ codes "--set" ∷ file ∷ author ∷ number ∷ other ∷ text ∷ [])
+    ≡ Some (SetProgram file replica board stat text)
 
 -- `--help` asks for help
 abbrev pub HelpAsksHelp : Type 0

@@ -20,18 +20,21 @@ steps_more used key p q words more (going, (left, (step, is))) =
     let taken = front.0 in
     let all : words ≡ taken ++ left = front.1.0 in
     let whole : words ++ more ≡ taken ++ (left ++ more) = ap (λ l. l ++ more) all ∙ append_assoc taken left more in
-    let again : Step key p (words ++ more) (Some (q, left ++ more)) = subst (λ l. Step key p l (Some (q, left ++ more))) (sym whole) (front.1.1 (left ++ more)) in
+    let again : Step key p (words ++ more) (Some (q, left ++ more)) =
+    subst (λ l. Step key p l (Some (q, left ++ more))) (sym whole) (front.1.1 (left ++ more)) in
     let size : length words ≡ length taken + length left = ap length all ∙ length-append taken left in
     let count : used ≡ length taken = omega (arith, is, size) in
     let longer : length (words ++ more) ≡ length taken + length (left ++ more) = ap length whole ∙ length-append taken (left ++ more) in
     let same : used ≡ length (words ++ more) - length (left ++ more) = omega (arith, count, longer) in
-    let behind : drop used (words ++ more) ≡ left ++ more = ap (λ n. drop n (words ++ more)) count ∙ ap (drop (length taken)) whole ∙ drop-append_seam taken (left ++ more) in
+    let behind : drop used (words ++ more) ≡ left ++ more =
+    ap (λ n. drop n (words ++ more)) count ∙ ap (drop (length taken)) whole ∙ drop-append_seam taken (left ++ more) in
     let before : drop used words ≡ left = ap (λ n. drop n words) count ∙ ap (drop (length taken)) all ∙ drop-append_seam taken left in
     ((going, (left ++ more, (again, same))), behind ∙ ap (λ l. l ++ more) (sym before))
 
 -- a course that starts with these words left, and has others come later
 comes_on : (w : Option Contents) (used : ℕ) (key : Key) (p stepped q : Playtest) (keys : List Key) (left came more rest behind : List ℕ)
-    → Steps (Ok used) key p (left ++ came) stepped → behind ≡ drop used (left ++ came) → Comes w (led_on w key p stepped) keys (behind ++ more) q rest
+    → Steps (Ok used) key p (left ++ came) stepped → behind ≡ drop used (left ++ came)
+    → Comes w (led_on w key p stepped) keys (behind ++ more) q rest
     → Comes w p (key ∷ keys) (left ++ (came ++ more)) q rest
 comes_on w used key p stepped q keys left came more rest behind step is later =
     let on = steps_more used key p stepped (left ++ came) more step in
@@ -48,13 +51,16 @@ Kept w a b =
     × Comes w a.play keys (a.left ++ came) b.play b.left
 
 -- what is answered in front of others
-kept_on : (w : Option Contents) (input : Input) (a next b : Point) (chance chance_then : Chances) → Answers w input a chance next chance_then → Kept w next b → Kept w a b
+kept_on : (w : Option Contents) (input : Input) (a next b : Point) (chance chance_then : Chances)
+    → Answers w input a chance next chance_then → Kept w next b
+    → Kept w a b
 kept_on w (Pressed key) a next b chance chance_then (mid, supplied, play, left, words, kept, same) (keys, more, put, all, comes) =
     let came = supplied.0 in
     let makes = supplied.3 in
     let all_keys : b.keys ≡ a.keys ++ (key ∷ keys) = put ∙ ap (λ l. l ++ keys) kept ∙ append_assoc a.keys (key ∷ []) keys in
     let all_words : b.words ≡ a.words ++ (came ++ more) = all ∙ ap (λ l. l ++ more) (words ∙ makes.3) ∙ append_assoc a.words came more in
-    let later : Comes w (led_on w key a.play mid.play) keys (next.left ++ more) b.play b.left = subst (λ p. Comes w p keys (next.left ++ more) b.play b.left) play comes in
+    let later : Comes w (led_on w key a.play mid.play) keys (next.left ++ more) b.play b.left =
+    subst (λ p. Comes w p keys (next.left ++ more) b.play b.left) play comes in
     (key ∷ keys, came ++ more, all_keys, all_words, comes_on w makes.0 key a.play mid.play b.play keys a.left came more b.left next.left makes.1 (left ∙ makes.2) later)
 kept_on w (Resized rows) a next b chance chance_then (same, still) kept = subst (λ p. Kept w p b) same kept
 

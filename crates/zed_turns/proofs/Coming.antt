@@ -14,7 +14,9 @@ use Rattle.zed_turns.proofs.Again.{plays_again}
 abbrev pub ComesTo : Option Contents → Playtest → Point → Type 0
 ComesTo w p at = Comes w p at.keys at.words at.play at.left
 
-came_to : (w : Option Contents) (n rows : ℕ) (p : Playtest) (words : List ℕ) (s : Stage) (c : Course) → Plays w n (course (at_start rows p words) s) c → ComesTo w p c.at
+came_to : (w : Option Contents) (n rows : ℕ) (p : Playtest) (words : List ℕ) (s : Stage) (c : Course)
+    → Plays w n (course (at_start rows p words) s) c
+    → ComesTo w p c.at
 came_to w n rows p words s c plays =
     let again = plays_again w n (course (at_start rows p words) s) c plays in
     subst (λ keys. Comes w p keys c.at.words c.at.play c.at.left) (sym again.2) (subst (λ all. Comes w p again.0 all c.at.play c.at.left) (sym again.3) again.4)

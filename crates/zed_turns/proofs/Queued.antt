@@ -25,7 +25,9 @@ pub takes_kept : (kept : List Key) (taken : ℕ) (key : Key) (left : Option (Lis
     → Takes (Some (Pressed key)) (behind_keys (drop taken kept) left) (behind_keys (drop (taken + 1) kept) left)
 takes_kept kept taken key None is = (tt, refl)
 takes_kept kept taken key (Some later) is =
-    let first : drop taken kept ≡ key ∷ drop (suc taken) kept = drop-cons kept taken key (slice_get_within kept taken key is) ∙ ap (λ x. x ∷ drop (suc taken) kept) (get_or_from_slice_get kept taken key key is) in
+    let first : drop taken kept ≡ key ∷ drop (suc taken) kept =
+    drop-cons kept taken key (slice_get_within kept taken key is)
+    ∙ ap (λ x. x ∷ drop (suc taken) kept) (get_or_from_slice_get kept taken key key is) in
     let same : suc taken ≡ taken + 1 = omega arith in
     let here : drop taken kept ≡ key ∷ drop (taken + 1) kept = first ∙ ap (λ n. key ∷ drop n kept) same in
     (sym (ap (λ ks. first_of (before ks later)) here), ap (λ ks. Some (behind_first (before ks later))) (sym here))
@@ -35,7 +37,8 @@ none_before : (left : Option (List Input)) → behind_keys [] left ≡ left
 none_before None = refl
 none_before (Some later) = refl
 
-typed_next : (keys : List Key) (input : Option Input) (left left_then : Option (List Input)) → keys ≡ [] → Takes input left left_then → Takes input (behind_keys keys left) (behind_keys keys left_then)
+typed_next : (keys : List Key) (input : Option Input) (left left_then : Option (List Input)) → keys ≡ [] → Takes input left left_then
+    → Takes input (behind_keys keys left) (behind_keys keys left_then)
 typed_next keys input left left_then none takes =
     let old : left ≡ behind_keys keys left = sym (ap (λ ks. behind_keys ks left) none ∙ none_before left) in
     let new : left_then ≡ behind_keys keys left_then = sym (ap (λ ks. behind_keys ks left_then) none ∙ none_before left_then) in
@@ -49,6 +52,7 @@ none_left kept taken is = elim (slice_get_cases kept taken).1 [
 ]
 
 -- the source's next is taken, once none of them is left
-pub takes_typed : (kept : List Key) (taken : ℕ) (input : Option Input) (left left_then : Option (List Input)) → slice_get kept taken ≡ None → Takes input left left_then
+pub takes_typed : (kept : List Key) (taken : ℕ) (input : Option Input) (left left_then : Option (List Input)) → slice_get kept taken ≡ None
+    → Takes input left left_then
     → Takes input (behind_keys (drop taken kept) left) (behind_keys (drop taken kept) left_then)
 takes_typed kept taken input left left_then is takes = typed_next (drop taken kept) input left left_then (none_left kept taken is) takes

@@ -23,7 +23,8 @@ words_back (word ∷ words) are =
     ap₂ (λ w l. w ∷ l) whole (words_back words are.1)
 
 -- two bytes are a word
-pub next_word : (bytes : List ℕ) → 2 ≤ length bytes → words_in bytes ≡ (slice_index (take 2 bytes) 0 + 256 * slice_index (take 2 bytes) 1) ∷ words_in (drop 2 bytes)
+pub next_word : (bytes : List ℕ) → 2 ≤ length bytes
+    → words_in bytes ≡ (slice_index (take 2 bytes) 0 + 256 * slice_index (take 2 bytes) 1) ∷ words_in (drop 2 bytes)
 next_word [] two = absurd (omega (arith, two))
 next_word (low ∷ []) two = absurd (omega (arith, two))
 next_word (low ∷ high ∷ bytes) two = refl

@@ -24,7 +24,8 @@ on_none way (Some Died) p = refl
 on_none way (Some Failed) p = refl
 
 -- nor where the player didn't leave
-on_still : (w : Option Contents) (way : Way) (o : Option Ending) (p : Playtest) → ((board : ℕ) → o ≡ Some (Left board) → ⊥) → on_by w way o p ≡ p
+on_still : (w : Option Contents) (way : Way) (o : Option Ending) (p : Playtest) → ((board : ℕ) → o ≡ Some (Left board) → ⊥)
+    → on_by w way o p ≡ p
 on_still w way None p still = refl
 on_still w way (Some (Left board)) p still = absurd (still board refl)
 on_still w way (Some Died) p still = refl
@@ -38,7 +39,8 @@ answers_still w (Pressed key) a b chance chance_then still (mid, supplied, play,
     (mid, supplied, same ∙ sym (on_still w (way_of key a.play) mid.play.ending mid.play there), left, words, keys, rows)
 answers_still w (Resized rows) a b chance chance_then still is = is
 
-advances_still : (w : Option Contents) (failing : Bool) (c d : Course) → IsStill d.at.play → Advances None failing c d → Advances w failing c d
+advances_still : (w : Option Contents) (failing : Bool) (c d : Course) → IsStill d.at.play → Advances None failing c d
+    → Advances w failing c d
 advances_still w failing c d still (input, takes, answers, draws) =
     (input, takes, answers_still w input c.at d.at c.stage.chance d.stage.chance still answers, draws)
 
@@ -81,7 +83,8 @@ ends_still w n c last ends = elim ends [
   ]
 ]
 
-plays_on_still : (w : Option Contents) (first last : Course) → IsStill last.at.play → PlaysOn None first last (Ok tt) → PlaysOn w first last (Ok tt)
+plays_on_still : (w : Option Contents) (first last : Course) → IsStill last.at.play → PlaysOn None first last (Ok tt)
+    → PlaysOn w first last (Ok tt)
 plays_on_still w first last still (n, c, few, plays, ends) =
     (n, c, few, plays_still w n first c (still_at n c last still ends) plays, ends_still w n c last ends)
 

@@ -30,7 +30,8 @@ one_more first came last mid all before behind = behind ∙ ap (λ ws. ws ++ las
 
 -- a call that failed is counted, where none had failed before
 pub rose_at : (e : TurnError) (old mid new : ℕ) → mid ≡ old → e ≡ NoWords → Counts (is_chance_fault {X = ⊤} (Err e)) mid new → Rose old new
-rose_at e old mid new same is counts = subst (λ n. Rose n new) same (subst (λ x. Counts (is_chance_fault {X = ⊤} (Err x)) mid new) is counts)
+rose_at e old mid new same is counts =
+    subst (λ n. Rose n new) same (subst (λ x. Counts (is_chance_fault {X = ⊤} (Err x)) mid new) is counts)
 
 -- those that are left, and those that came, where words were put behind all
 pub left_more : (used : ℕ) (words came : List ℕ) → used ≤ length words → drop used (words ++ came) ≡ drop used words ++ came
@@ -48,20 +49,25 @@ drop_more (suc k) n zero (x ∷ xs) is = absurd (omega (arith, is))
 drop_more (suc k) n (suc m) (x ∷ xs) is = drop_more k n m xs (omega (arith, is))
 
 -- a step is made on a tape to which words came
-pub makes_here : (key : Key) (a l b : Tape) (came : List ℕ) (n : ℕ) → a.used ≤ length a.words.items → l.words.items ≡ a.words.items ++ came → l.play ≡ a.play → l.used ≡ a.used
-    → Steps (Ok n) key l.play (drop l.used l.words.items) b.play → b.used ≡ l.used + n → b.words ≡ l.words → Makes key came (point a) (point b)
+pub makes_here : (key : Key) (a l b : Tape) (came : List ℕ) (n : ℕ) → a.used ≤ length a.words.items → l.words.items ≡ a.words.items ++ came
+    → l.play ≡ a.play → l.used ≡ a.used
+    → Steps (Ok n) key l.play (drop l.used l.words.items) b.play → b.used ≡ l.used + n → b.words ≡ l.words
+    → Makes key came (point a) (point b)
 makes_here key a l b came n within words play used step count same =
     let left : drop l.used l.words.items ≡ drop a.used a.words.items ++ came =
     ap (λ k. drop k l.words.items) used ∙ ap (drop a.used) words ∙ left_more a.used a.words.items came within in
-    let by : Steps (Ok n) key l.play (drop a.used a.words.items ++ came) b.play = subst (λ ws. Steps (Ok n) key l.play ws b.play) left step in
-    let made : Steps (Ok n) key a.play (drop a.used a.words.items ++ came) b.play = subst (λ p. Steps (Ok n) key p (drop a.used a.words.items ++ came) b.play) play by in
+    let by : Steps (Ok n) key l.play (drop a.used a.words.items ++ came) b.play =
+    subst (λ ws. Steps (Ok n) key l.play ws b.play) left step in
+    let made : Steps (Ok n) key a.play (drop a.used a.words.items ++ came) b.play =
+    subst (λ p. Steps (Ok n) key p (drop a.used a.words.items ++ came) b.play) play by in
     let all : b.words.items ≡ l.words.items = ap (λ w. w.items) same in
     let behind : drop b.used b.words.items ≡ drop n (drop a.used a.words.items ++ came) =
     ap (drop b.used) all ∙ drop_more l.used n b.used l.words.items count ∙ ap (drop n) left in
     (n, made, behind, all ∙ words)
 
 -- the words that came to a tape are too few
-pub lacks_here : (key : Key) (a l : Tape) (came : List ℕ) → a.used ≤ length a.words.items → l.words.items ≡ a.words.items ++ came → l.play ≡ a.play → l.used ≡ a.used
+pub lacks_here : (key : Key) (a l : Tape) (came : List ℕ) → a.used ≤ length a.words.items → l.words.items ≡ a.words.items ++ came
+    → l.play ≡ a.play → l.used ≡ a.used
     → LacksWords key l.play (drop l.used l.words.items) → LacksWords key a.play (drop a.used a.words.items ++ came)
 lacks_here key a l came within words play used lacks =
     let left : drop l.used l.words.items ≡ drop a.used a.words.items ++ came =

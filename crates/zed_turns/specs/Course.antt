@@ -44,7 +44,8 @@ LacksWords key p words = Steps (Err step.NoWords) key p words p
 
 -- words came for the step by a key: those that were left, and all that came but the last 32, were too few
 abbrev pub IsBehind : Key → Point → List ℕ → Type 0
-IsBehind key a came = (before : List ℕ) × (last : List ℕ) × (came ≡ before ++ last) × (length last ≡ 32) × LacksWords key a.play (a.left ++ before)
+IsBehind key a came =
+    (before : List ℕ) × (last : List ℕ) × (came ≡ before ++ last) × (length last ≡ 32) × LacksWords key a.play (a.left ++ before)
 
 -- they are needed, if any came
 abbrev pub IsNeeded : Key → Point → List ℕ → Type 0

@@ -42,5 +42,7 @@ length-map_from f n [] = refl
 length-map_from f n (x ∷ xs) = ap suc (length-map_from f (n + 1) xs)
 
 -- a loop that writes F over each member, one member further
-pub map_over_at : {X : Type 0} (F : X → X) (xs ys : List X) (i : ℕ) (d y : X) → i < length xs → length ys ≡ length xs → ys ≡ map F (take i xs) ++ drop i xs → y ≡ F (get_or ys i d) → set ys i y ≡ map F (take (i + 1) xs) ++ drop (i + 1) xs
+pub map_over_at : {X : Type 0} (F : X → X) (xs ys : List X) (i : ℕ) (d y : X) → i < length xs → length ys ≡ length xs
+    → ys ≡ map F (take i xs) ++ drop i xs → y ≡ F (get_or ys i d)
+    → set ys i y ≡ map F (take (i + 1) xs) ++ drop (i + 1) xs
 map_over_at F xs ys i d y l m e h = rw h (map_over_more F xs ys i (get_or ys i d) l e (get_or_default ys i d (get_or ys i d) (omega arith)))

@@ -35,13 +35,15 @@ nat_same x y = grind (arith, nat_tests)
 
 -- stamps, and names, compare as equal where they are one
 pub stamp_same : (a b : Stamp) → is_eq (stamp_cmp a b) ≡ same_stamp a b
-stamp_same a b = then_eq (nat_cmp a.time b.time) (nat_cmp a.replica b.replica) ∙ both (nat_same a.time b.time) (nat_same a.replica b.replica)
+stamp_same a b =
+    then_eq (nat_cmp a.time b.time) (nat_cmp a.replica b.replica) ∙ both (nat_same a.time b.time) (nat_same a.replica b.replica)
 
 pub name_same : (a b : Name) → is_eq (ordering_then (stamp_cmp a.stamp b.stamp) (nat_cmp a.index b.index)) ≡ same_name a b
 name_same a b = then_eq (stamp_cmp a.stamp b.stamp) (nat_cmp a.index b.index) ∙ both (stamp_same a.stamp b.stamp) (nat_same a.index b.index)
 
 -- a choice by the order of two stamps, by the tests on them
-pub by_tests : {X : Type 0} (a b : Stamp) (x y z : X) → match_ordering (stamp_cmp a b) x y z ≡ cond (before a b) x (cond (same_stamp a b) y z)
+pub by_tests : {X : Type 0} (a b : Stamp) (x y z : X)
+    → match_ordering (stamp_cmp a b) x y z ≡ cond (before a b) x (cond (same_stamp a b) y z)
 by_tests {X} a b x y z = go (ltb a.time b.time) (eqb a.time b.time) (ltb a.replica b.replica) (eqb a.replica b.replica)
   where
     go : (p q r s : Bool) → match_ordering (ordering_then (cond p Less (cond q Equal Greater)) (cond r Less (cond s Equal Greater))) x y z

@@ -12,11 +12,13 @@ pub pass_later-none : (s : Stamp) (e xs : List TextByte) → NoneLater s xs → 
 pass_later-none s e [] n = sym (append-nil e)
 pass_later-none s e (x ∷ xs) n = rw (n.0)
 
-behind-none_later : (s : Stamp) (e : List TextByte) (p : ElemId) (xs : List TextByte) → NoneLater s xs → behind p (pass_later s e) xs ≡ behind p (λ rest. e ++ rest) xs
+behind-none_later : (s : Stamp) (e : List TextByte) (p : ElemId) (xs : List TextByte) → NoneLater s xs
+    → behind p (pass_later s e) xs ≡ behind p (λ rest. e ++ rest) xs
 behind-none_later s e p [] n = refl
 behind-none_later s e p (x ∷ xs) n = rw (pass_later-none s e xs n.1, behind-none_later s e p xs n.1)
 
-pub put_late-none_later : (s : Stamp) (e : List TextByte) (p : Option ElemId) (xs : List TextByte) → NoneLater s xs → put_late p s e xs ≡ put_after p e xs
+pub put_late-none_later : (s : Stamp) (e : List TextByte) (p : Option ElemId) (xs : List TextByte) → NoneLater s xs
+    → put_late p s e xs ≡ put_after p e xs
 put_late-none_later s e None xs n = pass_later-none s e xs n
 put_late-none_later s e (Some p) xs n = behind-none_later s e p xs n
 

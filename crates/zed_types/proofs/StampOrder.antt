@@ -12,17 +12,21 @@ abbrev stamp_at : ℕ → ℕ → Stamp
 stamp_at t r = record { time = t; replica = r }
 
 -- what is made of two parts is equal where a test on each part holds
-both_parts : {A B C : Type 0} (make : A → B → C) (p q : Bool) {a x : A} {b y : B} → (p ≡ true → a ≡ x) → (q ≡ true → b ≡ y) → (p && q) ≡ true → make a b ≡ make x y
+both_parts : {A B C : Type 0} (make : A → B → C) (p q : Bool) {a x : A} {b y : B} → (p ≡ true → a ≡ x) → (q ≡ true → b ≡ y)
+    → (p && q) ≡ true
+    → make a b ≡ make x y
 both_parts make p q {a} {x} {b} {y} f g h = let e = and_parts p q h in ap (λ n. make n b) (f e.0) ∙ ap (λ n. make x n) (g e.1)
 
 pub same_stamp-true : (a b : Stamp) → same_stamp a b ≡ true → a ≡ b
-same_stamp-true a b h = both_parts stamp_at (eqb a.time b.time) (eqb a.replica b.replica) (eqb-true a.time b.time) (eqb-true a.replica b.replica) h
+same_stamp-true a b h =
+    both_parts stamp_at (eqb a.time b.time) (eqb a.replica b.replica) (eqb-true a.time b.time) (eqb-true a.replica b.replica) h
 
 pub same_stamp-itself : (a : Stamp) → same_stamp a a ≡ true
 same_stamp-itself a = and_from (eqb a.time a.time) (eqb a.replica a.replica) (eq-eqb a.time a.time refl) (eq-eqb a.replica a.replica refl)
 
 pub same_name-true : (a b : Name) → same_name a b ≡ true → a ≡ b
-same_name-true a b h = both_parts name_of (same_stamp a.stamp b.stamp) (eqb a.index b.index) (same_stamp-true a.stamp b.stamp) (eqb-true a.index b.index) h
+same_name-true a b h =
+    both_parts name_of (same_stamp a.stamp b.stamp) (eqb a.index b.index) (same_stamp-true a.stamp b.stamp) (eqb-true a.index b.index) h
 
 pub same_name-itself : (a : Name) → same_name a a ≡ true
 same_name-itself a = and_from (same_stamp a.stamp a.stamp) (eqb a.index a.index) (same_stamp-itself a.stamp) (eq-eqb a.index a.index refl)

@@ -8,14 +8,17 @@ use Rattle.zed_types.specs.Table.{is_in_table}
 
 -- whether the cell at an index stands in the columns from left to right and in the rows from top to bottom
 abbrev pub inside : ℕ → ℕ → ℕ → ℕ → ℕ → Bool
-inside left right top bottom k = (nat_le left (k % 60 + 1) && nat_le (k % 60 + 1) right) && (nat_le top (k / 60 + 1) && nat_le (k / 60 + 1) bottom)
+inside left right top bottom k =
+    (nat_le left (k % 60 + 1) && nat_le (k % 60 + 1) right) && (nat_le top (k / 60 + 1) && nat_le (k / 60 + 1) bottom)
 
 -- before the first row there is none
 pub inside-none : (left right top bottom k : ℕ) → bottom + 1 ≤ top → inside left right top bottom k ≡ false
 inside-none left right top bottom k h = grind (arith, nat_tests)
 
 -- the cells of the last row
-pub inside-row : (left right top bottom k : ℕ) → 1 ≤ left → left ≤ right → right ≤ 60 → top ≤ bottom + 1 → bottom * 60 + (left - 1) ≤ k → k < bottom * 60 + right → inside left right top (bottom + 1) k ≡ true
+pub inside-row : (left right top bottom k : ℕ) → 1 ≤ left → left ≤ right → right ≤ 60 → top ≤ bottom + 1 → bottom * 60 + (left - 1) ≤ k
+    → k < bottom * 60 + right
+    → inside left right top (bottom + 1) k ≡ true
 inside-row left right top bottom k a b c d e f =
     let quotient : k / 60 ≡ bottom = omega arith in
     let rest : k ≡ bottom * 60 + k % 60 = omega arith in
@@ -44,7 +47,8 @@ inside-right left right top bottom k h =
     rw (a, and-false)
 
 -- the cells before the last row
-pub inside-before : (left right top bottom k : ℕ) → 1 ≤ left → left ≤ right → right ≤ 60 → k < bottom * 60 + (left - 1) → inside left right top (bottom + 1) k ≡ inside left right top bottom k
+pub inside-before : (left right top bottom k : ℕ) → 1 ≤ left → left ≤ right → right ≤ 60 → k < bottom * 60 + (left - 1)
+    → inside left right top (bottom + 1) k ≡ inside left right top bottom k
 inside-before left right top bottom k a b c e = go (nat_lt (k / 60) bottom) refl
   where
     go : (v : Bool) → nat_lt (k / 60) bottom ≡ v → inside left right top (bottom + 1) k ≡ inside left right top bottom k
@@ -52,7 +56,8 @@ inside-before left right top bottom k a b c e = go (nat_lt (k / 60) bottom) refl
     go false v = let h = ltb-false (k / 60) bottom v in inside-left left right top bottom k (omega arith)
 
 -- the cells behind the last row
-pub inside-behind : (left right top bottom k : ℕ) → 1 ≤ left → left ≤ right → right ≤ 60 → bottom * 60 + right ≤ k → inside left right top (bottom + 1) k ≡ inside left right top bottom k
+pub inside-behind : (left right top bottom k : ℕ) → 1 ≤ left → left ≤ right → right ≤ 60 → bottom * 60 + right ≤ k
+    → inside left right top (bottom + 1) k ≡ inside left right top bottom k
 inside-behind left right top bottom k a b c e = go (nat_lt bottom (k / 60)) refl
   where
     go : (v : Bool) → nat_lt bottom (k / 60) ≡ v → inside left right top (bottom + 1) k ≡ inside left right top bottom k
@@ -60,5 +65,6 @@ inside-behind left right top bottom k a b c e = go (nat_lt bottom (k / 60)) refl
     go false v = let h = ltb-false bottom (k / 60) v in inside-right left right top bottom k (omega arith)
 
 -- where a rectangle of the table is
-pub in_table : (r : Rectangle) → IsTrue (is_in_table r) → ((1 ≤ r.left) × (r.left ≤ r.right) × (r.right ≤ 60)) × ((1 ≤ r.top) × (r.top ≤ r.bottom) × (r.bottom ≤ 25))
+pub in_table : (r : Rectangle) → IsTrue (is_in_table r)
+    → ((1 ≤ r.left) × (r.left ≤ r.right) × (r.right ≤ 60)) × ((1 ≤ r.top) × (r.top ≤ r.bottom) × (r.bottom ≤ 25))
 in_table r h = search rules

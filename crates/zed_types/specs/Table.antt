@@ -9,7 +9,8 @@ is_inside r p = (nat_le r.left p.x && nat_le p.x r.right) && (nat_le r.top p.y &
 
 -- a rectangle of at least one cell, inside the table
 abbrev pub is_in_table : Rectangle → Bool
-is_in_table r = (nat_le 1 r.left && nat_le r.left r.right && nat_le r.right 60) && (nat_le 1 r.top && nat_le r.top r.bottom && nat_le r.bottom 25)
+is_in_table r =
+    (nat_le 1 r.left && nat_le r.left r.right && nat_le r.right 60) && (nat_le 1 r.top && nat_le r.top r.bottom && nat_le r.bottom 25)
 
 -- the place of tile i of a table
 abbrev pub place_at : ℕ → Place

@@ -30,4 +30,5 @@ more_shown f xs ys i x y h k at there e t =
 pub same_shown : {X Y : Type 0} (f : X → Y) (xs ys : List X) (i : ℕ) (x y : X)
     → i < length xs → i < length ys → x ≡ get_or xs i x → y ≡ get_or ys i y
     → map f xs ≡ map f ys → f x ≡ f y
-same_shown f xs ys i x y h k at there e = some_is (f x) (f y) (sym (shown_at f xs i x h at) ∙ ap (λ zs. slice_get zs i) e ∙ shown_at f ys i y k there)
+same_shown f xs ys i x y h k at there e =
+    some_is (f x) (f y) (sym (shown_at f xs i x h at) ∙ ap (λ zs. slice_get zs i) e ∙ shown_at f ys i y k there)

@@ -75,11 +75,13 @@ all-sorted : (P : Board → Type 0) (bs : List Board) → AllByRecursion P bs �
 all-sorted P [] h = tt
 all-sorted P (b ∷ bs) h = all-put P b (sorted bs) h.0 (all-sorted P bs h.1)
 
-all-behind : (a b : Board) (xs : List Board) → comes_before a b ≡ true → AllByRecursion (λ x. comes_before b x ≡ true) xs → AllByRecursion (λ x. comes_before a x ≡ true) xs
+all-behind : (a b : Board) (xs : List Board) → comes_before a b ≡ true → AllByRecursion (λ x. comes_before b x ≡ true) xs
+    → AllByRecursion (λ x. comes_before a x ≡ true) xs
 all-behind a b [] h k = tt
 all-behind a b (x ∷ xs) h k = (through (standing a) (standing b) (standing x) h k.0, all-behind a b xs h k.1)
 
-put-rises : (b : Board) (xs : List Board) → AllByRecursion (λ x. same_board x.id b.id ≡ false) xs → Rises comes_before xs → Rises comes_before (put b xs)
+put-rises : (b : Board) (xs : List Board) → AllByRecursion (λ x. same_board x.id b.id ≡ false) xs → Rises comes_before xs
+    → Rises comes_before (put b xs)
 put-rises b [] d r = (tt, tt)
 put-rises b (x ∷ xs) d r = go (comes_before b x) refl (put-rises b xs d.1 r.1)
   where
@@ -140,7 +142,8 @@ put_few zero b xs = refl
 put_few (suc m) b [] = refl
 put_few (suc m) b (x ∷ xs) = go (comes_before b x) (put_few m b xs)
   where
-    go : (t : Bool) → take m (put b (take m xs)) ≡ take m (put b xs) → take (suc m) (cond t (b ∷ x ∷ take m xs) (x ∷ put b (take m xs))) ≡ take (suc m) (cond t (b ∷ x ∷ xs) (x ∷ put b xs))
+    go : (t : Bool) → take m (put b (take m xs)) ≡ take m (put b xs)
+        → take (suc m) (cond t (b ∷ x ∷ take m xs) (x ∷ put b (take m xs))) ≡ take (suc m) (cond t (b ∷ x ∷ xs) (x ∷ put b xs))
     go true e = ap (λ ys. b ∷ ys) (less m x xs)
     go false e = ap (λ ys. x ∷ ys) e
 
@@ -152,7 +155,8 @@ first_is m q [] = none m
     none (suc k) = refl
 first_is m q (b ∷ bs) = go (q b) (first_is m q bs)
   where
-    go : (t : Bool) → first_of m q bs ≡ take m (sorted (filter q bs)) → cond t (take m (put b (first_of m q bs))) (first_of m q bs) ≡ take m (sorted (cond t (b ∷ filter q bs) (filter q bs)))
+    go : (t : Bool) → first_of m q bs ≡ take m (sorted (filter q bs))
+        → cond t (take m (put b (first_of m q bs))) (first_of m q bs) ≡ take m (sorted (cond t (b ∷ filter q bs) (filter q bs)))
     go true e = ap (λ xs. take m (put b xs)) e ∙ put_few m b (sorted (filter q bs))
     go false e = e
 
@@ -169,7 +173,8 @@ module _ (q : Board → Bool) (up : (a b : Board) → q a ≡ true → comes_bef
       rest : List Board
       rest = filter q xs
 
-      go : (t : Bool) → comes_before b x ≡ t → (u : Bool) → q b ≡ u → (v : Bool) → q x ≡ v → filter q (put b xs) ≡ cond (q b) (put b rest) rest
+      go : (t : Bool) → comes_before b x ≡ t → (u : Bool) → q b ≡ u → (v : Bool) → q x ≡ v
+          → filter q (put b xs) ≡ cond (q b) (put b rest) rest
           → filter q (cond t (b ∷ x ∷ xs) (x ∷ put b xs)) ≡ cond (q b) (put b (filter q (x ∷ xs))) (filter q (x ∷ xs))
       go true e true f true g more = rw (f, g, e) refl
       go true e true f false g more = absurd (true≢false (sym (up b x f e) ∙ g))
@@ -183,7 +188,8 @@ module _ (q : Board → Bool) (up : (a b : Board) → q a ≡ true → comes_bef
   filter-sorted [] = refl
   filter-sorted (b ∷ bs) = filter-put b (sorted bs) ∙ go (q b) (filter-sorted bs)
     where
-      go : (t : Bool) → filter q (sorted bs) ≡ sorted (filter q bs) → cond t (put b (filter q (sorted bs))) (filter q (sorted bs)) ≡ sorted (cond t (b ∷ filter q bs) (filter q bs))
+      go : (t : Bool) → filter q (sorted bs) ≡ sorted (filter q bs)
+          → cond t (put b (filter q (sorted bs))) (filter q (sorted bs)) ≡ sorted (cond t (b ∷ filter q bs) (filter q bs))
       go true e = ap (put b) e
       go false e = e
 
@@ -192,7 +198,8 @@ filter-all q [] h = refl
 filter-all q (x ∷ xs) h = ap (λ t. cond t (x ∷ filter q xs) (filter q xs)) h.0 ∙ ap (λ ys. x ∷ ys) (filter-all q xs h.1)
 
 -- those behind member n of boards that rise are those from place n + 1 on
-behind-is : (xs : List Board) (n : ℕ) (a : Board) → Rises comes_before xs → slice_get xs n ≡ Some a → filter (λ x. comes_before a x) xs ≡ drop (suc n) xs
+behind-is : (xs : List Board) (n : ℕ) (a : Board) → Rises comes_before xs → slice_get xs n ≡ Some a
+    → filter (λ x. comes_before a x) xs ≡ drop (suc n) xs
 behind-is [] n a r e = absurd (none_some a e)
 behind-is (x ∷ xs) zero a r e =
     let s : x ≡ a = same_some x x a e in
@@ -240,7 +247,8 @@ chain a b c h k =
     let u = standing c in
     sym (is_less s u) ∙ (ranks_by total (λ x. x)).chain s t u (is_less s t ∙ h) (is_less t u ∙ k)
 
-all-past : (a b : Board) (xs : List Board) → comes_before a b ≡ false → AllByRecursion (λ y. comes_before y a ≡ false) xs → AllByRecursion (λ y. comes_before y b ≡ false) xs
+all-past : (a b : Board) (xs : List Board) → comes_before a b ≡ false → AllByRecursion (λ y. comes_before y a ≡ false) xs
+    → AllByRecursion (λ y. comes_before y b ≡ false) xs
 all-past a b [] h k = tt
 all-past a b (x ∷ xs) h k = (chain x a b k.0 h, all-past a b xs h k.1)
 
@@ -257,7 +265,8 @@ take-in_order zero xs o = tt
 take-in_order (suc m) [] o = tt
 take-in_order (suc m) (x ∷ xs) o = (all-take m xs o.0, take-in_order m xs o.1)
   where
-    all-take : (k : ℕ) (ys : List Board) → AllByRecursion (λ y. comes_before y x ≡ false) ys → AllByRecursion (λ y. comes_before y x ≡ false) (take k ys)
+    all-take : (k : ℕ) (ys : List Board) → AllByRecursion (λ y. comes_before y x ≡ false) ys
+        → AllByRecursion (λ y. comes_before y x ≡ false) (take k ys)
     all-take zero ys h = tt
     all-take (suc k) [] h = tt
     all-take (suc k) (y ∷ ys) h = (h.0, all-take k ys h.1)
@@ -272,7 +281,8 @@ first-in_order m q (b ∷ bs) = go (q b) (first-in_order m q bs)
     go false o = o
 
 -- one that does not come before the last one of them goes behind all
-put-last : (n : ℕ) (b z : Board) (xs : List Board) → IsInOrder xs → length xs ≡ suc n → slice_get xs n ≡ Some z → comes_before b z ≡ false → put b xs ≡ xs ++ b ∷ []
+put-last : (n : ℕ) (b z : Board) (xs : List Board) → IsInOrder xs → length xs ≡ suc n → slice_get xs n ≡ Some z → comes_before b z ≡ false
+    → put b xs ≡ xs ++ b ∷ []
 put-last n b z [] o long at h = absurd (omega (arith, long))
 put-last zero b z (x ∷ []) o long at h =
     let s : x ≡ z = same_some x x z at in
@@ -282,13 +292,16 @@ put-last (suc n) b z (x ∷ xs) o long at h =
     let first : comes_before z x ≡ false = behind n xs o.0 at in
     ap (λ t. cond t (b ∷ x ∷ xs) (x ∷ put b xs)) (chain b z x h first) ∙ ap (λ ys. x ∷ ys) (put-last n b z xs o.1 (omega (arith, long)) at h)
   where
-    behind : (k : ℕ) (ys : List Board) → AllByRecursion (λ y. comes_before y x ≡ false) ys → slice_get ys k ≡ Some z → comes_before z x ≡ false
+    behind : (k : ℕ) (ys : List Board) → AllByRecursion (λ y. comes_before y x ≡ false) ys → slice_get ys k ≡ Some z
+        → comes_before z x ≡ false
     behind k [] a e = absurd (none_some z e)
     behind zero (y ∷ ys) a e = subst (λ w. comes_before w x ≡ false) (same_some y y z e) a.0
     behind (suc k) (y ∷ ys) a e = behind k ys a.1 e
 
 -- so where there are enough it is left out
-pub put-past : (n : ℕ) (b z : Board) (xs : List Board) → IsInOrder xs → length xs ≡ suc n → slice_get xs n ≡ Some z → comes_before b z ≡ false → take (suc n) (put b xs) ≡ xs
+pub put-past : (n : ℕ) (b z : Board) (xs : List Board) → IsInOrder xs → length xs ≡ suc n → slice_get xs n ≡ Some z
+    → comes_before b z ≡ false
+    → take (suc n) (put b xs) ≡ xs
 put-past n b z xs o long at h = ap (take (suc n)) (put-last n b z xs o long at h) ∙ ap (λ k. take k (xs ++ b ∷ [])) (sym long) ∙ front xs
   where
     front : (ys : List Board) → take (length ys) (ys ++ b ∷ []) ≡ ys
@@ -301,17 +314,21 @@ module _ (m : ℕ) (q : Board → Bool) (bs : List Board) (i : ℕ) (d : Board) 
   abbrev left : List Board
   left = first_of m q (filter (λ x. not x.removed) (drop (i + 1) bs))
 
-  first-next : first_of m q (filter (λ x. not x.removed) (drop i bs)) ≡ cond (not (get_or bs i d).removed && q (get_or bs i d)) (take m (put (get_or bs i d) left)) left
+  first-next : first_of m q (filter (λ x. not x.removed) (drop i bs))
+      ≡ cond (not (get_or bs i d).removed && q (get_or bs i d)) (take m (put (get_or bs i d) left)) left
   first-next =
       let e : suc i ≡ i + 1 = omega arith in
       ap (λ xs. first_of m q (filter (λ x. not x.removed) xs)) (drop-cons bs i d lt ∙ ap (λ n. get_or bs i d ∷ drop n bs) e) ∙ go (get_or bs i d).removed
     where
-      go : (t : Bool) → first_of m q (cond (not t) (get_or bs i d ∷ filter (λ x. not x.removed) (drop (i + 1) bs)) (filter (λ x. not x.removed) (drop (i + 1) bs))) ≡ cond (not t && q (get_or bs i d)) (take m (put (get_or bs i d) left)) left
+      go : (t : Bool)
+          → first_of m q (cond (not t) (get_or bs i d ∷ filter (λ x. not x.removed) (drop (i + 1) bs)) (filter (λ x. not x.removed) (drop (i + 1) bs)))
+          ≡ cond (not t && q (get_or bs i d)) (take m (put (get_or bs i d) left)) left
       go true = refl
       go false = refl
 
   -- a board that passes is put among those behind it
-  pub taken_in : (not (get_or bs i d).removed && q (get_or bs i d)) ≡ true → first_of m q (filter (λ x. not x.removed) (drop i bs)) ≡ take m (put (get_or bs i d) left)
+  pub taken_in : (not (get_or bs i d).removed && q (get_or bs i d)) ≡ true
+      → first_of m q (filter (λ x. not x.removed) (drop i bs)) ≡ take m (put (get_or bs i d) left)
   taken_in h = first-next ∙ ap (λ t. cond t (take m (put (get_or bs i d) left)) left) h
 
   -- another isn't

@@ -26,7 +26,8 @@ elements-shown t [] = refl
 elements-shown t (y ∷ ys) = go (same_text t y.0) refl (elements-shown t ys)
   where
     go : (v : Bool) → same_text t y.0 ≡ v → elements_in (find_text t (shown_texts (elements_of ys))) ≡ spelled (text_in t ys)
-        → elements_in (cond (same_text y.0 t) (Some (as_text y.0 (elements y.1))) (find_text t (shown_texts (elements_of ys)))) ≡ spelled (cond v (Some y.1) (text_in t ys))
+        → elements_in (cond (same_text y.0 t) (Some (as_text y.0 (elements y.1))) (find_text t (shown_texts (elements_of ys))))
+        ≡ spelled (cond v (Some y.1) (text_in t ys))
     go true v more =
         let i : t ≡ y.0 = same_text-true t y.0 v in
         let w : same_text y.0 t ≡ true = ap (λ d. same_text d t) (sym i) ∙ same_text-itself t in
@@ -36,14 +37,16 @@ elements-shown t (y ∷ ys) = go (same_text t y.0) refl (elements-shown t ys)
         rw w more
 
 -- those of a text that is there, and of none
-pub of_some_text : (t : TextId) (ys : Texts) (v : Shown) → text_in t ys ≡ Some v → elements_in (find_text t (shown_texts (elements_of ys))) ≡ elements v
+pub of_some_text : (t : TextId) (ys : Texts) (v : Shown) → text_in t ys ≡ Some v
+    → elements_in (find_text t (shown_texts (elements_of ys))) ≡ elements v
 of_some_text t ys v h = elements-shown t ys ∙ ap spelled h
 
 pub of_no_text : (t : TextId) (ys : Texts) → text_in t ys ≡ None → elements_in (find_text t (shown_texts (elements_of ys))) ≡ []
 of_no_text t ys h = elements-shown t ys ∙ ap spelled h
 
 -- nor has it names
-pub no_names : (t : TextId) (ys : Texts) (from to : ℕ) → text_in t ys ≡ None → names_between from to (elements_in (find_text t (shown_texts (elements_of ys)))) ≡ []
+pub no_names : (t : TextId) (ys : Texts) (from to : ℕ) → text_in t ys ≡ None
+    → names_between from to (elements_in (find_text t (shown_texts (elements_of ys)))) ≡ []
 no_names t ys from to h = ap (names_between from to) (of_no_text t ys h) ∙ part-none ElemId from to
 
 -- whether it is there

@@ -18,8 +18,10 @@ mapped_at f [] i x d h = absurd (cc)
 mapped_at f (y ∷ ys) zero x d h = ap f (sym (some_is y x h))
 mapped_at f (y ∷ ys) (suc i) x d h = mapped_at f ys i x d h
 
-pub board_there : (ys : Boards) (i : ℕ) (b : BoardId) (x : LiveBoard) (d : Board) → slice_get ys i ≡ Some (b, x) → shown_board b x ≡ get_or (shown_boards ys) i d
+pub board_there : (ys : Boards) (i : ℕ) (b : BoardId) (x : LiveBoard) (d : Board) → slice_get ys i ≡ Some (b, x)
+    → shown_board b x ≡ get_or (shown_boards ys) i d
 board_there ys i b x d h = mapped_at (λ y. shown_board y.0 y.1) ys i (b, x) d h
 
-pub stat_there : (ts : Entries) (j : ℕ) (s : StatId) (x : LiveStat) (d : Stat) → slice_get ts j ≡ Some (s, x) → shown_stat s x ≡ get_or (shown_stats ts) j d
+pub stat_there : (ts : Entries) (j : ℕ) (s : StatId) (x : LiveStat) (d : Stat) → slice_get ts j ≡ Some (s, x)
+    → shown_stat s x ≡ get_or (shown_stats ts) j d
 stat_there ts j s x d h = mapped_at (λ t. shown_stat t.0 t.1) ts j (s, x) d h

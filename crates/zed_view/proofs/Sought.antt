@@ -27,15 +27,19 @@ text-append s xs ys =
     ap (option_map f) (find-append q xs ys) ∙ mapped-or f (find q xs) (find q ys)
 
 -- a stat that is on board i
-pub text_here : (s : StatId) (bs : List Board) (i : ℕ) (d : Board) (t : Option TextId) → i < length bs → text_in s (get_or bs i d).stats ≡ Some t → text_in s (flat_map (λ b. b.stats) (drop i bs)) ≡ Some t
+pub text_here : (s : StatId) (bs : List Board) (i : ℕ) (d : Board) (t : Option TextId) → i < length bs
+    → text_in s (get_or bs i d).stats ≡ Some t
+    → text_in s (flat_map (λ b. b.stats) (drop i bs)) ≡ Some t
 text_here s bs i d t l h =
     rw (drop-cons bs i d l) (text-append s (get_or bs i d).stats (flat_map (λ b. b.stats) (drop (suc i) bs)) ∙ ap (λ o. option_or o (text_in s (flat_map (λ b. b.stats) (drop (suc i) bs)))) h)
 
 -- a stat that is not on board i is on a later one, or on none
-pub text_further : (s : StatId) (bs : List Board) (i : ℕ) (d : Board) → i < length bs → text_in s (get_or bs i d).stats ≡ None → text_in s (flat_map (λ b. b.stats) (drop i bs)) ≡ text_in s (flat_map (λ b. b.stats) (drop (i + 1) bs))
+pub text_further : (s : StatId) (bs : List Board) (i : ℕ) (d : Board) → i < length bs → text_in s (get_or bs i d).stats ≡ None
+    → text_in s (flat_map (λ b. b.stats) (drop i bs)) ≡ text_in s (flat_map (λ b. b.stats) (drop (i + 1) bs))
 text_further s bs i d l h =
     rw (drop-cons bs i d l, add-one) (text-append s (get_or bs i d).stats (flat_map (λ b. b.stats) (drop (suc i) bs)) ∙ ap (λ o. option_or o (text_in s (flat_map (λ b. b.stats) (drop (suc i) bs)))) h)
 
 -- the name of a byte that is alive
-pub name_there : (xs : List TextByte) (k : ℕ) → slice_get (alive_names xs) k ≡ option_map (λ x. x.id) (slice_get (filter (λ x. x.alive) xs) k)
+pub name_there : (xs : List TextByte) (k : ℕ)
+    → slice_get (alive_names xs) k ≡ option_map (λ x. x.id) (slice_get (filter (λ x. x.alive) xs) k)
 name_there xs k = slice_get-map (λ (x : TextByte). x.id) (filter (λ x. x.alive) xs) k

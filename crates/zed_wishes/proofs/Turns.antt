@@ -23,12 +23,14 @@ seen w es b c = record { world = w; edits = es; is_stale = b; counts = c }
 authors_same : (d o : Replica) (replica : ℕ) (op : Op) (made : Made)
     → d.edits ≡ o.edits → d.is_stale ≡ o.is_stale → Authors d replica op made → Authors o replica op made
 authors_same d o replica op made edits stale h =
-    let first : Authors (seen o.world d.edits o.is_stale o.counts) replica op made = subst (λ b. Authors (seen o.world d.edits b o.counts) replica op made) stale h in
+    let first : Authors (seen o.world d.edits o.is_stale o.counts) replica op made =
+    subst (λ b. Authors (seen o.world d.edits b o.counts) replica op made) stale h in
     subst (λ es. Authors (seen o.world es o.is_stale o.counts) replica op made) edits first
 
 -- the first was made
 pub both_end : (d e : Replica) (replica : ℕ) (o n : Op) (result : Result ⊤ ActionError) (new : List Edit)
-    → Authors d replica o (Ok e.edits) → e.is_stale ≡ d.is_stale → Ends (Authors e replica n) result new → Ends (Performs d replica (Two o n)) result new
+    → Authors d replica o (Ok e.edits) → e.is_stale ≡ d.is_stale → Ends (Authors e replica n) result new
+    → Ends (Performs d replica (Two o n)) result new
 both_end d e replica o n (Ok u) new first stale second =
     inl (e.edits, first, authors_same e (with_edits e.edits d) replica n (Ok new) refl stale second)
 both_end d e replica o n (Err x) new first stale second = elim second [
@@ -42,7 +44,8 @@ pub first_refused : (d : Replica) (replica : ℕ) (o n : Op) (x : ActionError) �
 first_refused d replica o n x why = elim why [ inl lacks ↦ inl lacks | inr is ↦ inr (inr (x, is, refl)) ]
 
 -- there was nothing to perform
-pub not_found : (d : Replica) (replica : ℕ) (told : Result Deed DocumentError) (e : DocumentError) (x : ActionError) (kept : List ℕ) → x ≡ refusal_of e
+pub not_found : (d : Replica) (replica : ℕ) (told : Result Deed DocumentError) (e : DocumentError) (x : ActionError) (kept : List ℕ)
+    → x ≡ refusal_of e
     → ((e ≡ document.Memory) × (0 < length kept)) ⊎ (told ≡ Err e) → (x ≡ memory) ⊎ Does d replica told (Err x)
 not_found d replica told e x kept is why = elim why [
   | inl lacks ↦ inl (is ∙ ap refusal_of lacks.0)
@@ -50,10 +53,12 @@ not_found d replica told e x kept is why = elim why [
 ]
 
 -- there was
-pub found_ends : (d : Replica) (replica : ℕ) (told : Result Deed DocumentError) (deed : Deed) (result : Result ⊤ ActionError) (new : List Edit) → told ≡ Ok deed
+pub found_ends : (d : Replica) (replica : ℕ) (told : Result Deed DocumentError) (deed : Deed) (result : Result ⊤ ActionError) (new : List Edit)
+    → told ≡ Ok deed
     → Ends (Performs d replica deed) result new → Ends (Does d replica told) result new
 found_ends d replica told deed (Ok u) new same is = subst (λ t. Does d replica t (Ok new)) (sym same) is
-found_ends d replica told deed (Err x) new same why = elim why [ inl lacks ↦ inl lacks | inr is ↦ inr (subst (λ t. Does d replica t (Err x)) (sym same) is) ]
+found_ends d replica told deed (Err x) new same why =
+    elim why [ inl lacks ↦ inl lacks | inr is ↦ inr (subst (λ t. Does d replica t (Err x)) (sym same) is) ]
 
 -- ---- what is left
 
@@ -65,11 +70,13 @@ answered_is es made (Ok e) same = cc
 answered_is es made (Err e) same = absurd (let no : these es ≡ Err (refusal_of e) = same in cc)
 
 -- an edit was made
-made_is : (d : Replica) (replica : ℕ) (o : Op) (es : List Edit) → Authors d replica o (Ok es) → es ≡ with_edit (authored d.edits replica o) d.edits
+made_is : (d : Replica) (replica : ℕ) (o : Op) (es : List Edit) → Authors d replica o (Ok es)
+    → es ≡ with_edit (authored d.edits replica o) d.edits
 made_is d replica o es made = answered_is es (with_edit (authored d.edits replica o) d.edits) made.0 made.2
 
 -- the second was refused
-pub second_leaves : (d e : Replica) (replica : ℕ) (o n : Op) (result : Result ⊤ ActionError) (new : List Edit) → Authors d replica o (Ok e.edits)
+pub second_leaves : (d e : Replica) (replica : ℕ) (o n : Op) (result : Result ⊤ ActionError) (new : List Edit)
+    → Authors d replica o (Ok e.edits)
     → OnErr result (new ≡ e.edits) → OnErr result (Leaves d replica (Two o n) new)
 second_leaves d e replica o n (Ok u) new first kept = kept
 second_leaves d e replica o n (Err x) new first kept = inr (kept ∙ made_is d replica o e.edits first)
@@ -81,7 +88,8 @@ leaves_all d replica (Ok (One o)) = refl
 leaves_all d replica (Ok (Two o n)) = inl refl
 
 -- a deed was refused
-pub deed_leaves : (d : Replica) (replica : ℕ) (told : Result Deed DocumentError) (deed : Deed) (result : Result ⊤ ActionError) (new : List Edit) → told ≡ Ok deed
+pub deed_leaves : (d : Replica) (replica : ℕ) (told : Result Deed DocumentError) (deed : Deed) (result : Result ⊤ ActionError) (new : List Edit)
+    → told ≡ Ok deed
     → OnErr result (Leaves d replica deed new) → OnErr result (LeavesDeed d replica told new)
 deed_leaves d replica told deed (Ok u) new same kept = kept
 deed_leaves d replica told deed (Err x) new same kept = subst (λ t. LeavesDeed d replica t new) (sym same) kept

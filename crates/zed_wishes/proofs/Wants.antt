@@ -94,5 +94,6 @@ deed_wants d replica w e lack why = elim why [
 ]
 
 -- and then it may take some by what it comes to
-pub perform_wants : (d : Replica) (replica : ℕ) (w : Wish) (deed : Deed) → deed_of (replay d.edits) w ≡ Ok deed → DeedMayTake d replica deed → WishMayTake d replica w
+pub perform_wants : (d : Replica) (replica : ℕ) (w : Wish) (deed : Deed) → deed_of (replay d.edits) w ≡ Ok deed → DeedMayTake d replica deed
+    → WishMayTake d replica w
 perform_wants d replica w deed comes takes = inr (subst (AnyMayTake d replica) (sym comes) takes)

@@ -45,7 +45,8 @@ leads profile file files plain =
     (record { none = refl; fits = refl; goes = refl })
     (several_lead shape (option_rows profile) (codes "FILES") 1 (λ values word. record { none = refl; fits = refl; goes = refl }) (file ∷ []) files p.1)
 
-end : (profile : Profile) (file : Text) (files : List Text) → length (file ∷ files) ≤ usize_max → after_words shape (at_files profile (file ∷ files)).held ≡ []
+end : (profile : Profile) (file : Text) (files : List Text) → length (file ∷ files) ≤ usize_max
+    → after_words shape (at_files profile (file ∷ files)).held ≡ []
 unfolding clap_on_literals
 end Usual file files few = several_end (file ∷ files) (omega arith) few
 end Big file files few = several_end (file ∷ files) (omega arith) few
@@ -56,7 +57,8 @@ asks Usual file files = refl
 asks Big file files = refl
 
 -- `check FILES...`, where no word begins with a hyphen, and `--big` perhaps in front of these words
-pub check_words : (profile : Profile) (file : Text) (files : List Text) → list_all is_plain (file ∷ files) ≡ true → length (file ∷ files) ≤ usize_max
+pub check_words : (profile : Profile) (file : Text) (files : List Text) → list_all is_plain (file ∷ files) ≡ true
+    → length (file ∷ files) ≤ usize_max
     → command_of (codes "check" ∷ with_option profile (file ∷ files)) ≡ Some (Check profile (file ∷ files))
 check_words profile file files plain few =
     asked_by (codes "check") shape (with_option profile (file ∷ files)) (at_files profile (file ∷ files)) (Some (Check profile (file ∷ files))) enters

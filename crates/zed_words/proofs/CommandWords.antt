@@ -57,10 +57,13 @@ rest_level s rest ks = or_else ks (or_else (level_fault s [] nothing_held rest f
 pub record Enters (name : Text) (s : Shape) : Type 0 where
   pub word : walked top.rules names (walk_from nothing_held) name ≡ stopped_at name []
   pub fault : turn_fault top names (walk_from nothing_held) name ≡ []
-  pub ends : (rest : List Text) → top_level (name ∷ rest) (stopped_at name rest) ≡ rest_level s rest (walk_fault top names (walk_from nothing_held) (name ∷ rest))
-  pub rows : (rest : List Text) → entered (built zzted_app) (Some (name, rest)) ≡ Some (name, finished s.rules (walk s.rules [] nothing_held rest).held)
+  pub ends : (rest : List Text)
+      → top_level (name ∷ rest) (stopped_at name rest) ≡ rest_level s rest (walk_fault top names (walk_from nothing_held) (name ∷ rest))
+  pub rows : (rest : List Text)
+      → entered (built zzted_app) (Some (name, rest)) ≡ Some (name, finished s.rules (walk s.rules [] nothing_held rest).held)
 
-top_walk : (name : Text) (s : Shape) (rest : List Text) → Enters name s → walk top.rules names nothing_held (name ∷ rest) ≡ stopped_at name rest
+top_walk : (name : Text) (s : Shape) (rest : List Text) → Enters name s
+    → walk top.rules names nothing_held (name ∷ rest) ≡ stopped_at name rest
 top_walk name s rest enters =
     ap (λ w. fold (walked top.rules names) w rest) enters.word
     ∙ sym (walk_stopped top.rules names (walk_from nothing_held) name [] rest)
@@ -71,8 +74,10 @@ top_fault name s rest enters = ap₂ or_else enters.fault
     (ap (λ w. walk_fault top names w rest) enters.word
     ∙ stopped_fault top names (walk_from nothing_held) (name, []) rest)
 
-sub_fault : (name : Text) (s : Shape) (rest : List Text) → Enters name s → fault_of zzted_app (name ∷ rest) ≡ level_fault s [] nothing_held rest false []
-sub_fault name s rest enters = ap (top_level (name ∷ rest)) (top_walk name s rest enters) ∙ enters.ends rest ∙ ap (rest_level s rest) (top_fault name s rest enters)
+sub_fault : (name : Text) (s : Shape) (rest : List Text) → Enters name s
+    → fault_of zzted_app (name ∷ rest) ≡ level_fault s [] nothing_held rest false []
+sub_fault name s rest enters =
+    ap (top_level (name ∷ rest)) (top_walk name s rest enters) ∙ enters.ends rest ∙ ap (rest_level s rest) (top_fault name s rest enters)
     ∙ or_nothing (level_fault s [] nothing_held rest false [])
 
 sub_rows : (name : Text) (s : Shape) (rest : List Text) → Enters name s
@@ -120,7 +125,8 @@ pub record Leads (s : Shape) (from : Walk) (words : List Text) (to : Walk) : Typ
 pub record Takes (s : Shape) (h : Held) (waiting : Waiting) (position : ℕ) (word : Text) (to : Walk) : Type 0 where
   pub none : subcommand_met [] waiting word ≡ None
   pub fits : step_fault s position (plain_word s.rules waiting word h).0 (plain_word s.rules waiting word h).1 ≡ []
-  pub goes : after_step s.rules word (going h waiting position) (plain_word s.rules waiting word h).0 (plain_word s.rules waiting word h).1 ≡ to
+  pub goes : after_step s.rules word (going h waiting position) (plain_word s.rules waiting word h).0 (plain_word s.rules waiting word h).1
+      ≡ to
 
 pub none_lead : (s : Shape) (w : Walk) → Leads s w [] w
 unfolding walk_fault
@@ -141,7 +147,8 @@ value_met s h waiting position word v plain takes =
     ap (λ o. subcommand_or_other s.rules o waiting position word h) takes.none ∙ other_plain s.rules waiting position word h plain
 
 -- one plain word more
-pub word_leads : (s : Shape) (h : Held) (waiting : Waiting) (position : ℕ) (word : Text) (rest : List Text) (v u : Walk) → is_plain word ≡ true
+pub word_leads : (s : Shape) (h : Held) (waiting : Waiting) (position : ℕ) (word : Text) (rest : List Text) (v u : Walk)
+    → is_plain word ≡ true
     → Takes s h waiting position word v → Leads s v rest u → Leads s (going h waiting position) (word ∷ rest) u
 unfolding walked
 word_leads s h waiting position word rest v u plain takes later =

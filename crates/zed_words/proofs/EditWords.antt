@@ -38,7 +38,8 @@ rows_before path replica = row_by (codes "FILE") reading.AsWritten path ∷ row_
 abbrev at_words : Text → Text → List Text → Walk
 at_words path replica more = several_at (rows_before path replica) (codes "WORDS") 3 more
 
-leads : (path replica word : Text) (more : List Text) (n : ℕ) → number_of 16 replica ≡ Some n → list_all is_plain (path ∷ word ∷ more) ≡ true
+leads : (path replica word : Text) (more : List Text) (n : ℕ) → number_of 16 replica ≡ Some n
+    → list_all is_plain (path ∷ word ∷ more) ≡ true
     → Leads shape (begun Usual) (path ∷ replica ∷ word ∷ more) (at_words path replica (word ∷ more))
 leads path replica word more n is plain =
     let p = both _ _ plain in
@@ -52,7 +53,8 @@ leads path replica word more n is plain =
     (record { none = refl; fits = rw (number_accepted replica n (number_plain 16 replica n is) is) refl; goes = refl })
     (several_lead shape (rows_before path replica) (codes "WORDS") 3 (λ values word. record { none = refl; fits = refl; goes = refl }) (word ∷ []) more q.1)))
 
-end : (path replica word : Text) (more : List Text) → length (word ∷ more) ≤ usize_max → after_words shape (at_words path replica (word ∷ more)).held ≡ []
+end : (path replica word : Text) (more : List Text) → length (word ∷ more) ≤ usize_max
+    → after_words shape (at_words path replica (word ∷ more)).held ≡ []
 unfolding clap_on_literals
 end path replica word more few = several_end (word ∷ more) (omega arith) few
 
@@ -61,7 +63,8 @@ asks : (path replica word : Text) (more : List Text) (n : ℕ) → number_of 16 
 asks path replica word more n is = rw (number_as_written replica (number_plain 16 replica n is)) (rw is refl)
 
 -- `edit FILE REPLICA WORDS...`, where no word begins with a hyphen
-pub edit_words : (path replica word : Text) (more : List Text) (n : ℕ) → number_of 16 replica ≡ Some n → list_all is_plain (path ∷ word ∷ more) ≡ true
+pub edit_words : (path replica word : Text) (more : List Text) (n : ℕ) → number_of 16 replica ≡ Some n
+    → list_all is_plain (path ∷ word ∷ more) ≡ true
     → length (word ∷ more) ≤ usize_max → command_of (codes "edit" ∷ path ∷ replica ∷ word ∷ more) ≡ Some (Edit path n (word ∷ more))
 edit_words path replica word more n is plain few =
     asked_by (codes "edit") shape (path ∷ replica ∷ word ∷ more) (at_words path replica (word ∷ more)) (Some (Edit path n (word ∷ more))) enters

@@ -52,7 +52,8 @@ leads out world file files n is plain =
     (record { none = refl; fits = rw (world_accepted world n is) refl; goes = refl })
     (several_lead shape (rows_before out world) (codes "FILES") 3 (λ values word. record { none = refl; fits = refl; goes = refl }) (file ∷ []) files q.1)))
 
-end : (out world file : Text) (files : List Text) → length (file ∷ files) ≤ usize_max → after_words shape (at_files out world (file ∷ files)).held ≡ []
+end : (out world file : Text) (files : List Text) → length (file ∷ files) ≤ usize_max
+    → after_words shape (at_files out world (file ∷ files)).held ≡ []
 unfolding clap_on_literals
 end out world file files few = several_end (file ∷ files) (omega arith) few
 
@@ -61,7 +62,8 @@ asks : (out world file : Text) (files : List Text) (n : ℕ) → number_of 64 wo
 asks out world file files n is = rw is refl
 
 -- `merge OUT WORLD FILES...`, where no word begins with a hyphen
-pub merge_words : (out world file : Text) (files : List Text) (n : ℕ) → number_of 64 world ≡ Some n → list_all is_plain (out ∷ file ∷ files) ≡ true
+pub merge_words : (out world file : Text) (files : List Text) (n : ℕ) → number_of 64 world ≡ Some n
+    → list_all is_plain (out ∷ file ∷ files) ≡ true
     → length (file ∷ files) ≤ usize_max → command_of (codes "merge" ∷ out ∷ world ∷ file ∷ files) ≡ Some (Merge out n (file ∷ files))
 merge_words out world file files n is plain few =
     asked_by (codes "merge") shape (out ∷ world ∷ file ∷ files) (at_files out world (file ∷ files)) (Some (Merge out n (file ∷ files))) enters

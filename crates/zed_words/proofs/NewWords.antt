@@ -81,7 +81,8 @@ from_leads out world n (Some file) name is plain_from plain_name =
     (word_leads shape waiting (option (codes "from")) 3 file rest (at_from out world (Some file)) to plain_from
     (record { none = refl; fits = refl; goes = refl }) (name_leads out world n (Some file) name is plain_name))
 
-leads : (out world : Text) (n : ℕ) (from name : Option Text) → number_of 64 world ≡ Some n → is_plain out ≡ true → IfSome from (λ file. is_plain file ≡ true)
+leads : (out world : Text) (n : ℕ) (from name : Option Text) → number_of 64 world ≡ Some n → is_plain out ≡ true
+    → IfSome from (λ file. is_plain file ≡ true)
     → IfSome name (λ text. is_plain text ≡ true)
     → Leads shape (begun Usual) (out ∷ world ∷ option_words (codes "--from") from ++ option_words (codes "--name") name) (at_name out world from name)
 leads out world n from name is plain plain_from plain_name =
@@ -93,7 +94,8 @@ leads out world n from name is plain plain_from plain_name =
     (record { none = refl; fits = refl; goes = refl })
     (from_leads out world n from name is plain_from plain_name))
 
-end : (out world : Text) (n : ℕ) (from name : Option Text) → number_of 64 world ≡ Some n → after_words shape (at_name out world from name).held ≡ []
+end : (out world : Text) (n : ℕ) (from name : Option Text) → number_of 64 world ≡ Some n
+    → after_words shape (at_name out world from name).held ≡ []
 unfolding clap_on_literals
 end out world n None None is = rw (world_accepted world n is) refl
 end out world n (Some file) None is = refl
@@ -110,7 +112,8 @@ asks out world n (Some file) (Some text) is = rw is refl
 -- `new OUT WORLD`, with `--from FILE` or `--name TEXT` behind, or both, where no other word begins with a hyphen
 pub new_words : (out world : Text) (from name : Option Text) (n : ℕ) → number_of 64 world ≡ Some n → is_plain out ≡ true
     → IfSome from (λ file. is_plain file ≡ true) → IfSome name (λ text. is_plain text ≡ true)
-    → command_of (codes "new" ∷ out ∷ world ∷ option_words (codes "--from") from ++ option_words (codes "--name") name) ≡ Some (New out n from name)
+    → command_of (codes "new" ∷ out ∷ world ∷ option_words (codes "--from") from ++ option_words (codes "--name") name)
+    ≡ Some (New out n from name)
 new_words out world from name n is plain plain_from plain_name =
     asked_by (codes "new") shape (out ∷ world ∷ option_words (codes "--from") from ++ option_words (codes "--name") name) (at_name out world from name)
     (Some (New out n from name)) enters (leads out world n from name is plain plain_from plain_name) (end out world n from name is)

@@ -54,7 +54,8 @@ no_minus (byte ∷ bytes) plain = go (byte == 45) plain
     go false h = refl
 
 -- the number of a board or of a replica
-pub number_accepted : (text : Text) (n : ℕ) → is_plain text ≡ true → number_of 16 text ≡ Some n → accepts false (vp.Signed (pos 0) (pos 65535)) text ≡ true
+pub number_accepted : (text : Text) (n : ℕ) → is_plain text ≡ true → number_of 16 text ≡ Some n
+    → accepts false (vp.Signed (pos 0) (pos 65535)) text ≡ true
 number_accepted text n plain is =
     let v = digits_value 10 (without_leading_plus text) in
     let number = number_is 16 text n is in

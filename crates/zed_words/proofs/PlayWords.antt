@@ -60,11 +60,13 @@ takes_chance Usual board chance n is =
 takes_chance Big board chance n is =
     record { none = refl; fits = rw (number_accepted board n (number_plain 16 board n is) is) refl; goes = refl }
 
-takes_first : (profile : Profile) (board chance file : Text) → Takes shape (at_chance profile board chance).held idle 3 file (at_files profile board chance (file ∷ []))
+takes_first : (profile : Profile) (board chance file : Text)
+    → Takes shape (at_chance profile board chance).held idle 3 file (at_files profile board chance (file ∷ []))
 takes_first Usual board chance file = record { none = refl; fits = refl; goes = refl }
 takes_first Big board chance file = record { none = refl; fits = refl; goes = refl }
 
-leads : (profile : Profile) (board chance file : Text) (files : List Text) (n : ℕ) → number_of 16 board ≡ Some n → list_all is_plain (chance ∷ file ∷ files) ≡ true
+leads : (profile : Profile) (board chance file : Text) (files : List Text) (n : ℕ) → number_of 16 board ≡ Some n
+    → list_all is_plain (chance ∷ file ∷ files) ≡ true
     → Leads shape (begun profile) (board ∷ chance ∷ file ∷ files) (at_files profile board chance (file ∷ files))
 leads profile board chance file files n is plain =
     let p = both _ _ plain in
@@ -85,7 +87,8 @@ end Usual board chance file files few = several_end (file ∷ files) (omega arit
 end Big board chance file files few = several_end (file ∷ files) (omega arith) few
 
 asks : (profile : Profile) (board chance file : Text) (files : List Text) (n : ℕ) → number_of 16 board ≡ Some n
-    → subcommand_asks (codes "play", finished shape.rules (at_files profile board chance (file ∷ files)).held) ≡ Some (Play profile n chance (file ∷ files))
+    → subcommand_asks (codes "play", finished shape.rules (at_files profile board chance (file ∷ files)).held)
+    ≡ Some (Play profile n chance (file ∷ files))
 asks Usual board chance file files n is = rw (number_as_written board (number_plain 16 board n is)) (rw is refl)
 asks Big board chance file files n is = rw (number_as_written board (number_plain 16 board n is)) (rw is refl)
 

@@ -60,18 +60,21 @@ leads profile out file files plain =
     (takes_first profile out file)
     (several_lead shape (rows_before profile out) (codes "FILES") 2 (λ values word. record { none = refl; fits = refl; goes = refl }) (file ∷ []) files q.1))
 
-end : (profile : Profile) (out file : Text) (files : List Text) → length (file ∷ files) ≤ usize_max → after_words shape (at_files profile out (file ∷ files)).held ≡ []
+end : (profile : Profile) (out file : Text) (files : List Text) → length (file ∷ files) ≤ usize_max
+    → after_words shape (at_files profile out (file ∷ files)).held ≡ []
 unfolding clap_on_literals
 end Usual out file files few = several_end (file ∷ files) (omega arith) few
 end Big out file files few = several_end (file ∷ files) (omega arith) few
 
 asks : (profile : Profile) (out file : Text) (files : List Text)
-    → subcommand_asks (codes "save", finished shape.rules (at_files profile out (file ∷ files)).held) ≡ Some (Save profile out (file ∷ files))
+    → subcommand_asks (codes "save", finished shape.rules (at_files profile out (file ∷ files)).held)
+    ≡ Some (Save profile out (file ∷ files))
 asks Usual out file files = refl
 asks Big out file files = refl
 
 -- `save OUT FILES...`, where no word begins with a hyphen, and `--big` perhaps in front of these words
-pub save_words : (profile : Profile) (out file : Text) (files : List Text) → list_all is_plain (out ∷ file ∷ files) ≡ true → length (file ∷ files) ≤ usize_max
+pub save_words : (profile : Profile) (out file : Text) (files : List Text) → list_all is_plain (out ∷ file ∷ files) ≡ true
+    → length (file ∷ files) ≤ usize_max
     → command_of (codes "save" ∷ with_option profile (out ∷ file ∷ files)) ≡ Some (Save profile out (file ∷ files))
 save_words profile out file files plain few =
     let words = out ∷ file ∷ files in

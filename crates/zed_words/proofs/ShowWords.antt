@@ -53,7 +53,8 @@ takes_first Usual board file n plain is =
 takes_first Big board file n plain is =
     record { none = refl; fits = rw (number_accepted board n plain is) refl; goes = refl }
 
-leads : (profile : Profile) (board file : Text) (files : List Text) (n : ℕ) → number_of 16 board ≡ Some n → list_all is_plain (file ∷ files) ≡ true
+leads : (profile : Profile) (board file : Text) (files : List Text) (n : ℕ) → number_of 16 board ≡ Some n
+    → list_all is_plain (file ∷ files) ≡ true
     → Leads shape (begun profile) (board ∷ file ∷ files) (at_files profile board (file ∷ files))
 leads profile board file files n is plain =
     let number = number_plain 16 board n is in
@@ -65,19 +66,23 @@ leads profile board file files n is plain =
     (takes_first profile board file n number is)
     (several_lead shape (rows_before profile board) (codes "FILES") 2 (λ values word. record { none = refl; fits = refl; goes = refl }) (file ∷ []) files p.1))
 
-end : (profile : Profile) (board file : Text) (files : List Text) → length (file ∷ files) ≤ usize_max → after_words shape (at_files profile board (file ∷ files)).held ≡ []
+end : (profile : Profile) (board file : Text) (files : List Text) → length (file ∷ files) ≤ usize_max
+    → after_words shape (at_files profile board (file ∷ files)).held ≡ []
 unfolding clap_on_literals
 end Usual board file files few = several_end (file ∷ files) (omega arith) few
 end Big board file files few = several_end (file ∷ files) (omega arith) few
 
 asks : (profile : Profile) (board file : Text) (files : List Text) (n : ℕ) → is_plain board ≡ true → number_of 16 board ≡ Some n
-    → subcommand_asks (codes "show", finished shape.rules (at_files profile board (file ∷ files)).held) ≡ Some (Show profile n (file ∷ files))
+    → subcommand_asks (codes "show", finished shape.rules (at_files profile board (file ∷ files)).held)
+    ≡ Some (Show profile n (file ∷ files))
 asks Usual board file files n plain is = rw (number_as_written board plain) (rw is refl)
 asks Big board file files n plain is = rw (number_as_written board plain) (rw is refl)
 
 -- `show BOARD FILES...`, where no file's word begins with a hyphen, and `--big` perhaps in front of these words
-pub show_words : (profile : Profile) (board file : Text) (files : List Text) (n : ℕ) → number_of 16 board ≡ Some n → list_all is_plain (file ∷ files) ≡ true
-    → length (file ∷ files) ≤ usize_max → command_of (codes "show" ∷ with_option profile (board ∷ file ∷ files)) ≡ Some (Show profile n (file ∷ files))
+pub show_words : (profile : Profile) (board file : Text) (files : List Text) (n : ℕ) → number_of 16 board ≡ Some n
+    → list_all is_plain (file ∷ files) ≡ true
+    → length (file ∷ files) ≤ usize_max
+    → command_of (codes "show" ∷ with_option profile (board ∷ file ∷ files)) ≡ Some (Show profile n (file ∷ files))
 show_words profile board file files n is plain few =
     asked_by (codes "show") shape (with_option profile (board ∷ file ∷ files)) (at_files profile board (file ∷ files)) (Some (Show profile n (file ∷ files))) enters
     (option_leads shape profile (board ∷ file ∷ files) (at_files profile board (file ∷ files)) option_goes option_passes (leads profile board file files n is plain))

@@ -58,7 +58,8 @@ check_shape = shape_with (codes "check") (files_rule ∷ big_rule ∷ [])
 
 -- `new OUT WORLD [--from FILE] [--name TEXT]`
 abbrev pub create_shape : Shape
-create_shape = shape_with (codes "new") (required_rule (codes "OUT") ∷ world_rule ∷ option_rule (codes "from") ∷ option_rule (codes "name") ∷ [])
+create_shape =
+    shape_with (codes "new") (required_rule (codes "OUT") ∷ world_rule ∷ option_rule (codes "from") ∷ option_rule (codes "name") ∷ [])
 
 -- `edit FILE REPLICA WORDS...`
 abbrev pub edit_shape : Shape

@@ -65,16 +65,20 @@ built : Properties → Bool → ℕ → ℕ → ℕ → ℕ → Bool → List �
 built p dark north south west east re_enter message start_x start_y time_limit =
     record { max_shots = p.max_shots; dark = dark; north = north; south = south; west = west; east = east; re_enter = re_enter; message = message; start_x = start_x; start_y = start_y; time_limit = time_limit }
 
-built_is : (p : Properties) (dark : Bool) (north south west east : ℕ) (re_enter : Bool) (message : List ℕ) (start_x start_y : ℕ) (time_limit : ℤ) → dark ≡ p.dark → north ≡ p.north → south ≡ p.south → west ≡ p.west → east ≡ p.east → re_enter ≡ p.re_enter → message ≡ p.message
-    → start_x ≡ p.start_x → start_y ≡ p.start_y → time_limit ≡ p.time_limit → built p dark north south west east re_enter message start_x start_y time_limit ≡ p
+built_is : (p : Properties) (dark : Bool) (north south west east : ℕ) (re_enter : Bool) (message : List ℕ) (start_x start_y : ℕ) (time_limit : ℤ)
+    → dark ≡ p.dark → north ≡ p.north → south ≡ p.south → west ≡ p.west → east ≡ p.east → re_enter ≡ p.re_enter → message ≡ p.message
+    → start_x ≡ p.start_x → start_y ≡ p.start_y → time_limit ≡ p.time_limit
+    → built p dark north south west east re_enter message start_x start_y time_limit ≡ p
 unfolding built
-built_is p dark north south west east re_enter message start_x start_y time_limit a b c d e f g h i j = rw (a, b, c, d, e, f, g, h, i, j) refl
+built_is p dark north south west east re_enter message start_x start_y time_limit a b c d e f g h i j =
+    rw (a, b, c, d, e, f, g, h, i, j) refl
 
 back_integer : (p : Properties) (rest : List ℕ) → SFits w16 p.time_limit → integer_at (back_of p ++ rest) 2 ≡ p.time_limit
 unfolding back_of integer integer_at zeros
 back_integer p rest fits = integer_again p.time_limit [] fits
 
-properties_read : (boards : ℕ) (p : Properties) (rest : List ℕ) → IsNormalProperties boards p → properties_at boards (front_of p ++ (back_of p ++ rest)) ≡ p
+properties_read : (boards : ℕ) (p : Properties) (rest : List ℕ) → IsNormalProperties boards p
+    → properties_at boards (front_of p ++ (back_of p ++ rest)) ≡ p
 unfolding properties_at front_of back_of built string string_at integer zeros
 properties_read boards p rest n =
     let len = length_front p n.message in
@@ -83,16 +87,22 @@ properties_read boards p rest n =
     (index_past (front_of p) (back_of p ++ rest) 66 0 len) (index_past (front_of p) (back_of p ++ rest) 66 1 len)
     (integer_past (front_of p) (back_of p ++ rest) 66 2 len ∙ back_integer p rest n.time_limit)
 
-pub properties_again : (boards : ℕ) (p : Properties) (rest : List ℕ) → IsNormalProperties boards p → properties_at boards (properties_text p ++ rest) ≡ p
+pub properties_again : (boards : ℕ) (p : Properties) (rest : List ℕ) → IsNormalProperties boards p
+    → properties_at boards (properties_text p ++ rest) ≡ p
 properties_again boards p rest n = ap (properties_at boards) (parts_of p rest) ∙ properties_read boards p rest n
 
 -- ---- the stats
 
-stats_follow : (boards stats : ℕ) (tiles : List Tile) (lower ss : List StatData) → AreNormalStats boards stats tiles lower ss → length lower + length ss ≤ 151 → Follow (λ done s. (length done ≤ 151) × IsNormalStat boards stats tiles done s) lower ss
+stats_follow : (boards stats : ℕ) (tiles : List Tile) (lower ss : List StatData) → AreNormalStats boards stats tiles lower ss
+    → length lower + length ss ≤ 151
+    → Follow (λ done s. (length done ≤ 151) × IsNormalStat boards stats tiles done s) lower ss
 stats_follow boards stats tiles lower [] h le = tt
-stats_follow boards stats tiles lower (s ∷ ss) h le = ((omega arith, h.0), stats_follow boards stats tiles (lower ++ s ∷ []) ss h.1 (omega (arith, length_push lower s)))
+stats_follow boards stats tiles lower (s ∷ ss) h le =
+    ((omega arith, h.0), stats_follow boards stats tiles (lower ++ s ∷ []) ss h.1 (omega (arith, length_push lower s)))
 
-stats_again : (boards stats : ℕ) (tiles : List Tile) (ss : List StatData) (rest : List ℕ) → stats ≤ 151 → length ss ≤ 151 → AreNormalStats boards stats tiles [] ss → items_at (stat_at boards stats tiles) (length ss) [] (flat_map stat_text ss ++ rest) ≡ Ok ss
+stats_again : (boards stats : ℕ) (tiles : List Tile) (ss : List StatData) (rest : List ℕ) → stats ≤ 151 → length ss ≤ 151
+    → AreNormalStats boards stats tiles [] ss
+    → items_at (stat_at boards stats tiles) (length ss) [] (flat_map stat_text ss ++ rest) ≡ Ok ss
 stats_again boards stats tiles ss rest le few h =
     items_again (stat_at boards stats tiles) stat_text (λ (done : List StatData) (s : StatData). (length done ≤ 151) × IsNormalStat boards stats tiles done s)
     (λ done s after q. stat_again boards stats tiles done s after le q.0 q.1) ss [] rest (stats_follow boards stats tiles [] ss h (omega arith))
@@ -106,12 +116,14 @@ counted_again limit n e le = let test : leb n limit ≡ true = le-leb n limit le
 tail_of : BoardData → List ℕ
 tail_of b = properties_text b.properties ++ (integer (pos (length b.stats - 1)) ++ flat_map stat_text b.stats)
 
-pub with_is : (boards : ℕ) (name : List ℕ) (tiles : List Tile) (rest : List ℕ) (others : ℕ) (ss : List StatData) → 88 ≤ length rest → integer_at rest 86 ≡ pos others → others ≤ 150 → items_at (stat_at boards (others + 1) tiles) (others + 1) [] (drop 88 rest) ≡ Ok ss
+pub with_is : (boards : ℕ) (name : List ℕ) (tiles : List Tile) (rest : List ℕ) (others : ℕ) (ss : List StatData) → 88 ≤ length rest
+    → integer_at rest 86 ≡ pos others → others ≤ 150 → items_at (stat_at boards (others + 1) tiles) (others + 1) [] (drop 88 rest) ≡ Ok ss
     → board_with boards name tiles rest ≡ Ok (record { name = name; tiles = tiles; properties = properties_at boards rest; stats = ss })
 unfolding board_with
 with_is boards name tiles rest others ss long e le h =
     let test : ltb (length rest) 88 ≡ false = le-ltb _ _ long in
-    let count : counted 150 TooManyStats (integer_at rest 86) ≡ Ok others = ap (counted 150 TooManyStats) e ∙ counted_again 150 others TooManyStats le in
+    let count : counted 150 TooManyStats (integer_at rest 86) ≡ Ok others =
+    ap (counted 150 TooManyStats) e ∙ counted_again 150 others TooManyStats le in
     rw (test, count, h) refl
 
 tail_again : (boards : ℕ) (b : BoardData) → IsNormalBoard boards b → board_with boards b.name b.tiles (tail_of b) ≡ Ok b
@@ -127,18 +139,23 @@ tail_again boards b n =
     let all : others + 1 ≡ length b.stats = omega arith in
     let front : length (p ++ count) ≡ 88 = omega (arith, length-append p count, length_integer (pos others)) in
     let behind : drop 88 (p ++ (count ++ ss)) ≡ ss = ap (drop 88) (sym (append_assoc p count ss)) ∙ drop_at (p ++ count) ss 88 front in
-    let number : integer_at (p ++ (count ++ ss)) 86 ≡ pos others = integer_past p (count ++ ss) 86 0 p_long ∙ integer_again (pos others) ss (record { sfits = omega arith }) in
-    let long : 88 ≤ length (p ++ (count ++ ss)) = omega (arith, length-append p (count ++ ss), length-append count ss, length_integer (pos others)) in
+    let number : integer_at (p ++ (count ++ ss)) 86 ≡ pos others =
+    integer_past p (count ++ ss) 86 0 p_long ∙ integer_again (pos others) ss (record { sfits = omega arith }) in
+    let long : 88 ≤ length (p ++ (count ++ ss)) =
+    omega (arith, length-append p (count ++ ss), length-append count ss, length_integer (pos others)) in
     let read : items_at (stat_at boards (others + 1) b.tiles) (others + 1) [] (drop 88 (p ++ (count ++ ss))) ≡ Ok b.stats
     = rw (all, behind) (ap (items_at (stat_at boards (length b.stats) b.tiles) (length b.stats) []) (sym (append-nil ss)) ∙ stats_again boards (length b.stats) b.tiles b.stats [] few few n.stats) in
-    let properties : properties_at boards (p ++ (count ++ ss)) ≡ b.properties = properties_again boards b.properties (count ++ ss) n.properties in
+    let properties : properties_at boards (p ++ (count ++ ss)) ≡ b.properties =
+    properties_again boards b.properties (count ++ ss) n.properties in
     with_is boards b.name b.tiles (p ++ (count ++ ss)) others b.stats long number (omega arith) read
     ∙ ap (λ (q : Properties). Ok (record b { properties = q })) properties
 
 regroup_body : (s g p i f : List ℕ) → (((s ++ g) ++ p) ++ i) ++ f ≡ s ++ (g ++ (p ++ (i ++ f)))
 regroup_body s g p i f = simp append_assoc
 
-pub body_is : (boards : ℕ) (body : List ℕ) (tiles : List Tile) (rest : List ℕ) → 51 ≤ length body → tiles_at 1500 (drop 51 body) ≡ Some (tiles, rest) → board_at boards body ≡ board_with boards (string_at 50 body 0) tiles rest
+pub body_is : (boards : ℕ) (body : List ℕ) (tiles : List Tile) (rest : List ℕ) → 51 ≤ length body
+    → tiles_at 1500 (drop 51 body) ≡ Some (tiles, rest)
+    → board_at boards body ≡ board_with boards (string_at 50 body 0) tiles rest
 unfolding board_at
 body_is boards body tiles rest long h =
     let test : ltb (length body) 51 ≡ false = le-ltb _ _ long in
@@ -149,10 +166,12 @@ unfolding body_text tail_of
 body_again law boards b n =
     let s = string 50 b.name in
     let after = greedy b.tiles ++ tail_of b in
-    let parts : body_text b ≡ s ++ after = regroup_body s (greedy b.tiles) (properties_text b.properties) (integer (pos (length b.stats - 1))) (flat_map stat_text b.stats) in
+    let parts : body_text b ≡ s ++ after =
+    regroup_body s (greedy b.tiles) (properties_text b.properties) (integer (pos (length b.stats - 1))) (flat_map stat_text b.stats) in
     let s_long = length_string 50 b.name n.name in
     let behind : drop 51 (s ++ after) ≡ after = drop_at s after 51 s_long in
-    let tiles : tiles_at 1500 (drop 51 (s ++ after)) ≡ Some (b.tiles, tail_of b) = ap (tiles_at 1500) behind ∙ law b.tiles (tail_of b) n.tiles in
+    let tiles : tiles_at 1500 (drop 51 (s ++ after)) ≡ Some (b.tiles, tail_of b) =
+    ap (tiles_at 1500) behind ∙ law b.tiles (tail_of b) n.tiles in
     let name : string_at 50 (s ++ after) 0 ≡ b.name = string_again 50 b.name after n.name in
     ap (board_at boards) parts ∙ body_is boards (s ++ after) b.tiles (tail_of b) (omega (arith, length-append s after)) tiles
     ∙ ap (λ (x : List ℕ). board_with boards x b.tiles (tail_of b)) name ∙ tail_again boards b n
@@ -162,7 +181,9 @@ body_again law boards b n =
 size_again : (n : ℕ) (rest : List ℕ) → n ≤ 32767 → little_number 2 (little_bytes 2 n ++ rest) ≡ n
 size_again n rest le = omega arith
 
-split_is : (size body rest bytes : List ℕ) (n : ℕ) → length size ≡ 2 → n ≤ 32767 → length body ≡ n → bytes ≡ size ++ (body ++ rest) → little_number 2 bytes ≡ n → body_at bytes ≡ Ok (body, rest)
+split_is : (size body rest bytes : List ℕ) (n : ℕ) → length size ≡ 2 → n ≤ 32767 → length body ≡ n → bytes ≡ size ++ (body ++ rest)
+    → little_number 2 bytes ≡ n
+    → body_at bytes ≡ Ok (body, rest)
 unfolding body_at
 split_is size body rest bytes n two le len e number =
     let both : drop 2 bytes ≡ body ++ rest = ap (drop 2) e ∙ drop_at size (body ++ rest) 2 two in
@@ -170,14 +191,19 @@ split_is size body rest bytes n two le len e number =
     let b : ltb 32767 n ≡ false = le-ltb _ _ le in
     let c : ltb (length (body ++ rest)) n ≡ false = le-ltb _ _ (omega (arith, length-append body rest)) in
     let pair : List ℕ → List ℕ → Result (List ℕ × List ℕ) WorldError = λ x y. Ok (x, y) in
-    let parts : pair (take n (body ++ rest)) (drop n (body ++ rest)) ≡ pair body rest = rw (take_at body rest n len, drop_at body rest n len) refl in
+    let parts : pair (take n (body ++ rest)) (drop n (body ++ rest)) ≡ pair body rest =
+    rw (take_at body rest n len, drop_at body rest n len) refl in
     rw (a, number, b, both, c) parts
 
-pub next_is : (boards : ℕ) (done : List BoardData) (bytes body rest : List ℕ) (b : BoardData) → body_at bytes ≡ Ok (body, rest) → board_at boards body ≡ Ok b → next_board_at boards done bytes ≡ Ok (b, rest)
+pub next_is : (boards : ℕ) (done : List BoardData) (bytes body rest : List ℕ) (b : BoardData) → body_at bytes ≡ Ok (body, rest)
+    → board_at boards body ≡ Ok b
+    → next_board_at boards done bytes ≡ Ok (b, rest)
 unfolding next_board_at
 next_is boards done bytes body rest b h k = rw (h, k) refl
 
-pub next_again : GreedyIsRead → (boards : ℕ) (done : List BoardData) (b : BoardData) (rest : List ℕ) → length (body_text b) ≤ 32767 → IsNormalBoard boards b → next_board_at boards done (board_text b ++ rest) ≡ Ok (b, rest)
+pub next_again : GreedyIsRead → (boards : ℕ) (done : List BoardData) (b : BoardData) (rest : List ℕ) → length (body_text b) ≤ 32767
+    → IsNormalBoard boards b
+    → next_board_at boards done (board_text b ++ rest) ≡ Ok (b, rest)
 unfolding board_text
 next_again law boards done b rest le n =
     let body = body_text b in

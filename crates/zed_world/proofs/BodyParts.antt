@@ -33,8 +33,10 @@ body_parts boards body b h =
     let g = guard_ok (ltb (length body) 51) Truncated (found_or Truncated (tiles_at 1500 (drop 51 body)) >>= λ table. board_with boards (string_at 50 body 0) table.0 table.1) b h in
     let t = bind_ok (found_or Truncated (tiles_at 1500 (drop 51 body))) (λ (table : List Tile × List ℕ). board_with boards (string_at 50 body 0) table.0 table.1) b g.1 in
     let rest = t.0.1 in
-    let made : List StatData → BoardData = λ ss. record { name = string_at 50 body 0; tiles = t.0.0; properties = properties_at boards rest; stats = ss } in
-    let after : ℕ → Result BoardData WorldError = λ others. items_at (stat_at boards (others + 1) t.0.0) (others + 1) [] (drop 88 rest) >>= λ ss. Ok (made ss) in
+    let made : List StatData → BoardData =
+    λ ss. record { name = string_at 50 body 0; tiles = t.0.0; properties = properties_at boards rest; stats = ss } in
+    let after : ℕ → Result BoardData WorldError =
+    λ others. items_at (stat_at boards (others + 1) t.0.0) (others + 1) [] (drop 88 rest) >>= λ ss. Ok (made ss) in
     let g2 = guard_ok (ltb (length rest) 88) Truncated (counted 150 TooManyStats (integer_at rest 86) >>= after) b t.2 in
     let c = bind_ok (counted 150 TooManyStats (integer_at rest 86)) after b g2.1 in
     let s = bind_ok (items_at (stat_at boards (c.0 + 1) t.0.0) (c.0 + 1) [] (drop 88 rest)) (λ (ss : List StatData). Ok (made ss)) b c.2 in

@@ -15,16 +15,19 @@ use Rattle.zed_world.proofs.Places.{drop_drop, get_front, get_last, get_within}
 
 -- ---- chains
 
-share_more : (body places more : List ℕ) (n next : ℕ) → share_from body (slice_get places n) ≡ Some next → share_from body (slice_get (places ++ more) n) ≡ Some next
+share_more : (body places more : List ℕ) (n next : ℕ) → share_from body (slice_get places n) ≡ Some next
+    → share_from body (slice_get (places ++ more) n) ≡ Some next
 share_more body places more n next h = either (slice_get places n) refl
   where
     either : (o : Option ℕ) → slice_get places n ≡ o → share_from body (slice_get (places ++ more) n) ≡ Some next
     either None q = let none : share_from body None ≡ Some next = sym (ap (share_from body) q) ∙ h in absurd cc
     either (Some place) q = ap (share_from body) (get_front places more n place q) ∙ sym (ap (share_from body) q) ∙ h
 
-leads_more : (body places more : List ℕ) (n : ℕ) (chain : List ℕ) (owner : ℕ) → LeadsTo body places n chain owner → LeadsTo body (places ++ more) n chain owner
+leads_more : (body places more : List ℕ) (n : ℕ) (chain : List ℕ) (owner : ℕ) → LeadsTo body places n chain owner
+    → LeadsTo body (places ++ more) n chain owner
 leads_more body places more n [] owner h = h
-leads_more body places more n (next ∷ chain) owner h = (share_more body places more n next h.0, leads_more body places more next chain owner h.1)
+leads_more body places more n (next ∷ chain) owner h =
+    (share_more body places more n next h.0, leads_more body places more next chain owner h.1)
 
 -- a program stays when stats are added
 pub code_stays : (body places more : List ℕ) (n : ℕ) (c : Code) → IsCode body places n c → IsCode body (places ++ more) n c
@@ -39,10 +42,13 @@ code_stays body places more n c i = record {
 }
 
 -- where a chain ends nothing is shared
-ends : (body places : List ℕ) (owner place : ℕ) → slice_get places owner ≡ Some place → shared_number (length_field body place) ≡ None → share_from body (slice_get places owner) ≡ None
+ends : (body places : List ℕ) (owner place : ℕ) → slice_get places owner ≡ Some place → shared_number (length_field body place) ≡ None
+    → share_from body (slice_get places owner) ≡ None
 ends body places owner place h k = ap (share_from body) h ∙ k
 
-one_chain : (body places : List ℕ) (a b : List ℕ) (n p q : ℕ) → LeadsTo body places n a p → LeadsTo body places n b q → share_from body (slice_get places p) ≡ None → share_from body (slice_get places q) ≡ None → (a ≡ b) × (p ≡ q)
+one_chain : (body places : List ℕ) (a b : List ℕ) (n p q : ℕ) → LeadsTo body places n a p → LeadsTo body places n b q
+    → share_from body (slice_get places p) ≡ None → share_from body (slice_get places q) ≡ None
+    → (a ≡ b) × (p ≡ q)
 one_chain body places [] [] n p q h k f g = (refl, sym h ∙ k)
 one_chain body places [] (y ∷ b) n p q h k f g =
     let none : share_from body (slice_get places n) ≡ None = ap (λ (i : ℕ). share_from body (slice_get places i)) h ∙ f in
@@ -78,7 +84,8 @@ own_along n [] h = absurd (omega arith)
 own_along n (b ∷ bs) h = refl
 
 -- sharing with a stat is sharing with its owner
-shared_along : (body places : List ℕ) (k : ℕ) (chain : List ℕ) (owner : ℕ) (bytes : List ℕ) → LeadsTo body places k chain owner → shared k (code_along chain owner bytes) ≡ code_along (k ∷ chain) owner bytes
+shared_along : (body places : List ℕ) (k : ℕ) (chain : List ℕ) (owner : ℕ) (bytes : List ℕ) → LeadsTo body places k chain owner
+    → shared k (code_along chain owner bytes) ≡ code_along (k ∷ chain) owner bytes
 shared_along body places k [] owner [] h = refl
 shared_along body places k (x ∷ chain) owner [] h = refl
 shared_along body places k [] owner (b ∷ bs) h = ap (λ (i : ℕ). code.Same i) h
@@ -95,7 +102,9 @@ nothing_taken : {A : Type 0} (xs : List A) → take 0 xs ≡ []
 nothing_taken [] = refl
 nothing_taken (x ∷ xs) = refl
 
-own_code : (body places : List ℕ) (n place : ℕ) (z : ℤ) (c : Code) → n ≡ length places → length_field body place ≡ z → shared_number z ≡ None → c ≡ code_along [] n (part body (place + 33) (own_length z)) → IsCode body (places ++ place ∷ []) n c
+own_code : (body places : List ℕ) (n place : ℕ) (z : ℤ) (c : Code) → n ≡ length places → length_field body place ≡ z
+    → shared_number z ≡ None → c ≡ code_along [] n (part body (place + 33) (own_length z))
+    → IsCode body (places ++ place ∷ []) n c
 own_code body places n place z c long e none is = record {
   chain = [];
   owner = n;
@@ -106,7 +115,9 @@ own_code body places n place z c long e none is = record {
   is = is ∙ ap (λ (y : ℤ). code_along [] n (part body (place + 33) (own_length y))) (sym e);
 }
 
-share_code : (body places : List ℕ) (n place k : ℕ) (c : Code) → n ≡ length places → shared_number (length_field body place) ≡ Some k → IsCode body places k c → IsCode body (places ++ place ∷ []) n (shared k c)
+share_code : (body places : List ℕ) (n place k : ℕ) (c : Code) → n ≡ length places → shared_number (length_field body place) ≡ Some k
+    → IsCode body places k c
+    → IsCode body (places ++ place ∷ []) n (shared k c)
 share_code body places n place k c long e i = record {
   chain = k ∷ i.chain;
   owner = i.owner;
@@ -114,19 +125,24 @@ share_code body places n place k c long e i = record {
   leads = (ap (λ (m : ℕ). share_from body (slice_get (places ++ place ∷ []) m)) long ∙ ap (share_from body) (get_last places [] place) ∙ e, leads_more body places (place ∷ []) k i.chain i.owner i.leads);
   there = get_front places (place ∷ []) i.owner i.place i.there;
   owns = i.owns;
-  is = ap (shared k) i.is ∙ shared_along body places k i.chain i.owner (part body (i.place + 33) (own_length (length_field body i.place))) i.leads;
+  is =
+      ap (shared k) i.is
+      ∙ shared_along body places k i.chain i.owner (part body (i.place + 33) (own_length (length_field body i.place))) i.leads;
 }
 
 -- the stats so far have the programs that the lengths lead to
 abbrev pub HaveCodes : List ℕ → List ℕ → List StatData → Type 0
-HaveCodes body places done = (n place : ℕ) (s : StatData) → slice_get places n ≡ Some place → slice_get done n ≡ Some s → IsCode body places n s.code
+HaveCodes body places done =
+    (n place : ℕ) (s : StatData) → slice_get places n ≡ Some place → slice_get done n ≡ Some s → IsCode body places n s.code
 
-pub code_found : (body places : List ℕ) (place : ℕ) (done : List StatData) (z : ℤ) (x : Code × List ℕ) → length places ≡ length done → HaveCodes body places done → place + 33 ≤ length body → length_field body place ≡ z
+pub code_found : (body places : List ℕ) (place : ℕ) (done : List StatData) (z : ℤ) (x : Code × List ℕ) → length places ≡ length done
+    → HaveCodes body places done → place + 33 ≤ length body → length_field body place ≡ z
     → code_at done z (drop (place + 33) body) ≡ Ok x → FoundCode body places (length done) place x.0 x.1
 unfolding code_at
 code_found body places place done (pos zero) x long codes within e h =
     let end : stat_end body place ≡ place + 33 = ap (λ (y : ℤ). place + 33 + own_length y) e ∙ omega arith in
-    let nothing : code_along [] (length done) (part body (place + 33) 0) ≡ code.None = ap (code_along [] (length done)) (nothing_taken (drop (place + 33) body)) in
+    let nothing : code_along [] (length done) (part body (place + 33) 0) ≡ code.None =
+    ap (code_along [] (length done)) (nothing_taken (drop (place + 33) body)) in
     subst (λ (y : Code × List ℕ). FoundCode body places (length done) place y.0 y.1) (ok_is (code.None, drop (place + 33) body) x h) (record {
       lower = subst (λ (y : ℤ). IfSome (shared_number y) (λ k. k < length done)) (sym e) tt;
       code = own_code body places (length done) place (pos 0) code.None (sym long) e refl (sym nothing);
@@ -155,7 +171,8 @@ code_found body places place done (negsuc n) x long codes within e h =
     let p = get_within places (suc n) (omega arith) in
     let end : stat_end body place ≡ place + 33 = ap (λ (y : ℤ). place + 33 + own_length y) e ∙ omega arith in
     let shares : shared_number (length_field body place) ≡ Some (suc n) = ap shared_number e in
-    let code : IsCode body (places ++ place ∷ []) (length done) (shared (suc n) s.0.code) = share_code body places (length done) place (suc n) s.0.code (sym long) shares (codes (suc n) p.0 s.0 p.1 s.1) in
+    let code : IsCode body (places ++ place ∷ []) (length done) (shared (suc n) s.0.code) =
+    share_code body places (length done) place (suc n) s.0.code (sym long) shares (codes (suc n) p.0 s.0 p.1 s.1) in
     subst (λ (y : Code × List ℕ). FoundCode body places (length done) place y.0 y.1) (ok_is made x g.1) (record {
       lower = subst (λ (y : ℤ). IfSome (shared_number y) (λ k. k < length done)) (sym e) lower;
       code = subst (λ (o : Option StatData). IsCode body (places ++ place ∷ []) (length done) (shared (suc n) (code_of o))) (sym s.1) code;
@@ -166,13 +183,18 @@ code_found body places place done (negsuc n) x long codes within e h =
 -- ---- the other way: what the lengths lead to is read
 
 -- stat n owns its bytes, if it has any
-alone : (body places : List ℕ) (n place : ℕ) (c : Code) (i : IsCode body places n c) → slice_get places n ≡ Some place → shared_number (length_field body place) ≡ None → c ≡ code_along [] n (part body (place + 33) (own_length (length_field body place)))
+alone : (body places : List ℕ) (n place : ℕ) (c : Code) (i : IsCode body places n c) → slice_get places n ≡ Some place
+    → shared_number (length_field body place) ≡ None
+    → c ≡ code_along [] n (part body (place + 33) (own_length (length_field body place)))
 alone body places n place c i there none =
-    let mine : IsCode body places n (code_along [] n (part body (place + 33) (own_length (length_field body place)))) = record { chain = []; owner = n; place = place; leads = refl; there = there; owns = none; is = refl } in
+    let mine : IsCode body places n (code_along [] n (part body (place + 33) (own_length (length_field body place)))) =
+    record { chain = []; owner = n; place = place; leads = refl; there = there; owns = none; is = refl } in
     one_code body places n c _ i mine
 
 -- stat n shares with stat k, which has this program
-follows : (body places : List ℕ) (n place k : ℕ) (c d : Code) → slice_get places n ≡ Some place → shared_number (length_field body place) ≡ Some k → IsCode body places n c → IsCode body places k d → c ≡ shared k d
+follows : (body places : List ℕ) (n place k : ℕ) (c d : Code) → slice_get places n ≡ Some place
+    → shared_number (length_field body place) ≡ Some k → IsCode body places n c → IsCode body places k d
+    → c ≡ shared k d
 follows body places n place k c d there shares i j =
     let mine : IsCode body places n (shared k d) = record {
       chain = k ∷ j.chain;
@@ -181,12 +203,17 @@ follows body places n place k c d there shares i j =
       leads = (ap (share_from body) there ∙ shares, j.leads);
       there = j.there;
       owns = j.owns;
-      is = ap (shared k) j.is ∙ shared_along body places k j.chain j.owner (part body (j.place + 33) (own_length (length_field body j.place))) j.leads;
+      is =
+          ap (shared k) j.is
+          ∙ shared_along body places k j.chain j.owner (part body (j.place + 33) (own_length (length_field body j.place))) j.leads;
     } in
     one_code body places n c (shared k d) i mine
 
-pub code_read : (body places : List ℕ) (n place : ℕ) (done : List StatData) (z : ℤ) (c : Code) → n ≡ length done → slice_get places n ≡ Some place → length_field body place ≡ z → stat_end body place ≤ length body → IfSome (shared_number z) (λ k. k < n)
-    → IsCode body places n c → ((k : ℕ) (s : StatData) → slice_get done k ≡ Some s → IsCode body places k s.code) → code_at done z (drop (place + 33) body) ≡ Ok (c, drop (stat_end body place) body)
+pub code_read : (body places : List ℕ) (n place : ℕ) (done : List StatData) (z : ℤ) (c : Code) → n ≡ length done
+    → slice_get places n ≡ Some place → length_field body place ≡ z → stat_end body place ≤ length body
+    → IfSome (shared_number z) (λ k. k < n)
+    → IsCode body places n c → ((k : ℕ) (s : StatData) → slice_get done k ≡ Some s → IsCode body places k s.code)
+    → code_at done z (drop (place + 33) body) ≡ Ok (c, drop (stat_end body place) body)
 unfolding code_at
 code_read body places n place done (pos zero) c long there e within lower i codes =
     let end : place + 33 ≡ stat_end body place = omega arith ∙ ap (λ (y : ℤ). place + 33 + own_length y) (sym e) in
@@ -202,7 +229,8 @@ code_read body places n place done (pos (suc m)) c long there e within lower i c
     let some : 0 < length (take (suc m) rest) = omega (arith, length-take (suc m) rest) in
     let is : code.Own (take (suc m) rest) ≡ c = sym (alone body places n place c i there none ∙ ap (λ (y : ℤ). code_along [] n (part body (place + 33) (own_length y))) e ∙ own_along n (take (suc m) rest) some) in
     let found : Result (Code × List ℕ) WorldError = Ok (c, drop (stat_end body place) body) in
-    let after : drop (suc m) rest ≡ drop (stat_end body place) body = drop_drop (suc m) (place + 33) body ∙ ap (λ (k : ℕ). drop k body) end in
+    let after : drop (suc m) rest ≡ drop (stat_end body place) body =
+    drop_drop (suc m) (place + 33) body ∙ ap (λ (k : ℕ). drop k body) end in
     rw test (ap (λ (x : Code). Ok (x, drop (suc m) rest)) is ∙ ap (λ (x : List ℕ). Ok (c, x)) after)
 code_read body places n place done (negsuc m) c long there e within lower i codes =
     let rest = drop (place + 33) body in

@@ -28,7 +28,8 @@ use Rattle.zed_world.proofs.StatsByPlace.{Placed, AllPlaced, stats_found, stats_
 
 -- what the law on runs promises
 pub record TilesAreRuns : Type 0 where
-  pub read : (bytes rest : List ℕ) (tiles : List Tile) → tiles_at 1500 bytes ≡ Some (tiles, rest) → (front : List ℕ) × Runs tiles front × (bytes ≡ front ++ rest)
+  pub read : (bytes rest : List ℕ) (tiles : List Tile) → tiles_at 1500 bytes ≡ Some (tiles, rest)
+      → (front : List ℕ) × Runs tiles front × (bytes ≡ front ++ rest)
   pub all : (front rest : List ℕ) (tiles : List Tile) → Runs tiles front → tiles_at 1500 (front ++ rest) ≡ Some (tiles, rest)
 
 counted_is : (limit : ℕ) (f : WorldError) (z : ℤ) (n : ℕ) → counted limit f z ≡ Ok n → z ≡ pos n
@@ -39,12 +40,16 @@ counted_is limit f (pos m) n h = either (leb m limit) h
     either true q = let same : m ≡ n = cc in ap (λ (k : ℕ). pos k) same
     either false q = absurd cc
 
-items_many : {A : Type 0} (item : List A → List ℕ → Result (A × List ℕ) WorldError) (n : ℕ) (bytes : List ℕ) (xs : List A) → items_at item n [] bytes ≡ Ok xs → length xs ≡ n
+items_many : {A : Type 0} (item : List A → List ℕ → Result (A × List ℕ) WorldError) (n : ℕ) (bytes : List ℕ) (xs : List A)
+    → items_at item n [] bytes ≡ Ok xs
+    → length xs ≡ n
 items_many {A} item n bytes xs h = let kept = items_keep (λ (l : List A). Unit {0}) item (λ b y x p q. tt) n [] bytes xs tt h in omega (arith, kept.1)
 
 -- ---- a body
 
-body_of : (law : TilesAreRuns) (boards : ℕ) (body : List ℕ) (tiles : List Tile) (rest : List ℕ) (others : ℕ) (ss : List StatData) → tiles_at 1500 (drop 51 body) ≡ Some (tiles, rest) → 51 ≤ length body → 88 ≤ length rest → integer_at rest 86 ≡ pos others → others ≤ 150
+body_of : (law : TilesAreRuns) (boards : ℕ) (body : List ℕ) (tiles : List Tile) (rest : List ℕ) (others : ℕ) (ss : List StatData)
+    → tiles_at 1500 (drop 51 body) ≡ Some (tiles, rest) → 51 ≤ length body → 88 ≤ length rest → integer_at rest 86 ≡ pos others
+    → others ≤ 150
     → items_at (stat_at boards (others + 1) tiles) (others + 1) [] (drop 88 rest) ≡ Ok ss → length ss ≡ others + 1
     → IsBody boards (record { name = string_at 50 body 0; tiles = tiles; properties = properties_at boards rest; stats = ss }) body
 body_of law boards body tiles rest others ss found name_in rest_in count few items many =
@@ -55,7 +60,8 @@ body_of law boards body tiles rest others ss found name_in rest_in count few ite
     let after : drop (51 + runs + 88) body ≡ drop 88 rest = sym (drop_drop 88 (51 + runs) body) ∙ ap (drop 88) behind in
     let long : length body ≡ 51 + runs + length rest = omega (arith, ap length behind, length-drop (51 + runs) body) in
     let all : (k : ℕ) → others + 1 ≡ k → length ss ≡ k = λ k e. many ∙ e in
-    let read : items_at (stat_at boards (others + 1) tiles) (others + 1) [] (drop (51 + runs + 88) body) ≡ Ok ss = ap (items_at (stat_at boards (others + 1) tiles) (others + 1) []) after ∙ items in
+    let read : items_at (stat_at boards (others + 1) tiles) (others + 1) [] (drop (51 + runs + 88) body) ≡ Ok ss =
+    ap (items_at (stat_at boards (others + 1) tiles) (others + 1) []) after ∙ items in
     let s = stats_found boards (others + 1) tiles body (others + 1) [] [] (51 + runs + 88) ss refl (λ n p t a b. absurd cc) read in
     record {
       runs = runs;
@@ -63,7 +69,9 @@ body_of law boards body tiles rest others ss found name_in rest_in count few ite
       name = refl;
       tiles = subst (λ (y : List ℕ). Runs tiles y) (sym front) f.1;
       properties = ap (properties_at boards) (sym behind);
-      count = sym (integer_there (51 + runs) 86 body) ∙ ap (λ (y : List ℕ). integer_at y 86) behind ∙ count ∙ ap (λ (k : ℕ). pos k) (omega arith);
+      count =
+          sym (integer_there (51 + runs) 86 body) ∙ ap (λ (y : List ℕ). integer_at y 86) behind ∙ count
+          ∙ ap (λ (k : ℕ). pos k) (omega arith);
       some = omega arith;
       few = omega arith;
       places = s.places;
@@ -88,21 +96,26 @@ body_read law boards body b i =
     let within = i.within in
     let some = i.some in
     let few = i.few in
-    let cut : part body 51 runs ++ rest ≡ drop 51 body = ap (λ (y : List ℕ). part body 51 runs ++ y) (sym (drop_drop runs 51 body)) ∙ take-append-drop runs (drop 51 body) in
-    let tiles : tiles_at 1500 (drop 51 body) ≡ Some (b.tiles, rest) = ap (tiles_at 1500) (sym cut) ∙ law.all (part body 51 runs) rest b.tiles i.tiles in
+    let cut : part body 51 runs ++ rest ≡ drop 51 body =
+    ap (λ (y : List ℕ). part body 51 runs ++ y) (sym (drop_drop runs 51 body)) ∙ take-append-drop runs (drop 51 body) in
+    let tiles : tiles_at 1500 (drop 51 body) ≡ Some (b.tiles, rest) =
+    ap (tiles_at 1500) (sym cut) ∙ law.all (part body 51 runs) rest b.tiles i.tiles in
     let all : others + 1 ≡ length b.stats = omega arith in
     let count : integer_at rest 86 ≡ pos others = integer_there (51 + runs) 86 body ∙ i.count in
     let after : drop 88 rest ≡ drop (51 + runs + 88) body = drop_drop 88 (51 + runs) body in
     let placed : AllPlaced boards (length b.stats) b.tiles body i.places b.stats = λ n p t a c. let it = i.stats n p t a c in record { lower = it.lower; fields = it.fields; code = it.code } in
     let stats = stats_read boards (length b.stats) b.tiles body i.places b.stats i.places b.stats [] [] (51 + runs + 88) refl i.as_many refl refl i.stand placed in
     let items : items_at (stat_at boards (others + 1) b.tiles) (others + 1) [] (drop 88 rest) ≡ Ok b.stats = rw (all, after) stats in
-    let with_properties : List ℕ → Properties → Result BoardData WorldError = λ n p. Ok (record { name = n; tiles = b.tiles; properties = p; stats = b.stats }) in
+    let with_properties : List ℕ → Properties → Result BoardData WorldError =
+    λ n p. Ok (record { name = n; tiles = b.tiles; properties = p; stats = b.stats }) in
     body_is boards body b.tiles rest (omega arith) tiles ∙ with_is boards (string_at 50 body 0) b.tiles rest others b.stats (omega (arith, length-drop (51 + runs) body)) count (omega arith) items
     ∙ ap (λ (n : List ℕ). with_properties n (properties_at boards rest)) (sym i.name) ∙ ap (with_properties b.name) (sym i.properties)
 
 -- ---- boards one after the other
 
-board_found : (law : TilesAreRuns) (boards : ℕ) (bytes : List ℕ) (at : ℕ) (done : List BoardData) (x : BoardData × List ℕ) → next_board_at boards done (drop at bytes) ≡ Ok x → IsBoard boards bytes at x.0 × (x.1 ≡ drop (board_end bytes at) bytes)
+board_found : (law : TilesAreRuns) (boards : ℕ) (bytes : List ℕ) (at : ℕ) (done : List BoardData) (x : BoardData × List ℕ)
+    → next_board_at boards done (drop at bytes) ≡ Ok x
+    → IsBoard boards bytes at x.0 × (x.1 ≡ drop (board_end bytes at) bytes)
 unfolding next_board_at body_at
 board_found law boards bytes at done x h =
     let here = drop at bytes in
@@ -111,7 +124,8 @@ board_found law boards bytes at done x h =
     let o = bind_ok (body_at here) (λ (body : List ℕ × List ℕ). board_at boards body.0 >>= λ board. Ok (board, body.1)) x h in
     let b = bind_ok (board_at boards o.0.0) (λ (board : BoardData). Ok (board, o.0.1)) x o.2 in
     let g1 = guard_ok (ltb (length here) 2) fault.Truncated (cond (ltb 32767 size) (Err fault.BadBoardSize) (cond (ltb (length (drop 2 here)) size) (Err fault.Truncated) (Ok cut))) o.0 o.1 in
-    let g2 = guard_ok (ltb 32767 size) fault.BadBoardSize (cond (ltb (length (drop 2 here)) size) (Err fault.Truncated) (Ok cut)) o.0 g1.1 in
+    let g2 =
+    guard_ok (ltb 32767 size) fault.BadBoardSize (cond (ltb (length (drop 2 here)) size) (Err fault.Truncated) (Ok cut)) o.0 g1.1 in
     let g3 = guard_ok (ltb (length (drop 2 here)) size) fault.Truncated (Ok cut) o.0 g2.1 in
     let word_in : 2 ≤ length here = ltb-false _ _ g1.0 in
     let small : size ≤ 32767 = ltb-false _ _ g2.0 in
@@ -120,7 +134,8 @@ board_found law boards bytes at done x h =
     let made : BoardData × List ℕ = (b.0, o.0.1) in
     let found : x ≡ made = sym (ok_is made x b.2) in
     let body : o.0.0 ≡ part bytes (at + 2) size = sym (ap (λ (y : List ℕ × List ℕ). y.0) same) ∙ ap (take size) (drop_drop 2 at bytes) in
-    let rest : o.0.1 ≡ drop (board_end bytes at) bytes = sym (ap (λ (y : List ℕ × List ℕ). y.1) same) ∙ ap (drop size) (drop_drop 2 at bytes) ∙ drop_drop size (at + 2) bytes in
+    let rest : o.0.1 ≡ drop (board_end bytes at) bytes =
+    sym (ap (λ (y : List ℕ × List ℕ). y.1) same) ∙ ap (drop size) (drop_drop 2 at bytes) ∙ drop_drop size (at + 2) bytes in
     let is : IsBoard boards bytes at b.0 = record {
       size = small;
       within = omega (arith, length-drop at bytes, length-drop 2 here);
@@ -128,7 +143,8 @@ board_found law boards bytes at done x h =
     } in
     subst (λ (y : BoardData × List ℕ). IsBoard boards bytes at y.0 × (y.1 ≡ drop (board_end bytes at) bytes)) (sym found) (is, rest)
 
-board_read : (law : TilesAreRuns) (boards : ℕ) (bytes : List ℕ) (at : ℕ) (done : List BoardData) (b : BoardData) → IsBoard boards bytes at b → next_board_at boards done (drop at bytes) ≡ Ok (b, drop (board_end bytes at) bytes)
+board_read : (law : TilesAreRuns) (boards : ℕ) (bytes : List ℕ) (at : ℕ) (done : List BoardData) (b : BoardData) → IsBoard boards bytes at b
+    → next_board_at boards done (drop at bytes) ≡ Ok (b, drop (board_end bytes at) bytes)
 unfolding body_at
 board_read law boards bytes at done b i =
     let here = drop at bytes in
@@ -148,7 +164,9 @@ record FoundBoards (boards : ℕ) (bytes : List ℕ) (at : ℕ) (done bs : List 
   is : bs ≡ done ++ rest
   are : AreBoards boards bytes at rest
 
-boards_found : (law : TilesAreRuns) (boards : ℕ) (bytes : List ℕ) (n at : ℕ) (done bs : List BoardData) → items_at (next_board_at boards) n done (drop at bytes) ≡ Ok bs → FoundBoards boards bytes at done bs
+boards_found : (law : TilesAreRuns) (boards : ℕ) (bytes : List ℕ) (n at : ℕ) (done bs : List BoardData)
+    → items_at (next_board_at boards) n done (drop at bytes) ≡ Ok bs
+    → FoundBoards boards bytes at done bs
 unfolding items_at
 boards_found law boards bytes zero at done bs h = record { rest = []; is = sym (append-nil done ∙ ok_is done bs h); are = tt }
 boards_found law boards bytes (suc n) at done bs h =
@@ -157,7 +175,8 @@ boards_found law boards bytes (suc n) at done bs h =
     let r = boards_found law boards bytes n (board_end bytes at) (done ++ o.0.0 ∷ []) bs (sym (ap (items_at (next_board_at boards) n (done ++ o.0.0 ∷ [])) f.1) ∙ o.2) in
     record { rest = o.0.0 ∷ r.rest; is = r.is ∙ append_assoc done (o.0.0 ∷ []) r.rest; are = (f.0, r.are) }
 
-boards_read : (law : TilesAreRuns) (boards : ℕ) (bytes : List ℕ) (at : ℕ) (bs done : List BoardData) → AreBoards boards bytes at bs → items_at (next_board_at boards) (length bs) done (drop at bytes) ≡ Ok (done ++ bs)
+boards_read : (law : TilesAreRuns) (boards : ℕ) (bytes : List ℕ) (at : ℕ) (bs done : List BoardData) → AreBoards boards bytes at bs
+    → items_at (next_board_at boards) (length bs) done (drop at bytes) ≡ Ok (done ++ bs)
 unfolding items_at
 boards_read law boards bytes at [] done h = ap (λ (y : List BoardData). Ok y) (sym (append-nil done))
 boards_read law boards bytes at (b ∷ bs) done h =
@@ -166,7 +185,8 @@ boards_read law boards bytes at (b ∷ bs) done h =
 
 -- ---- the file
 
-file_of : (law : TilesAreRuns) (bytes : List ℕ) (others : ℕ) (bs : List BoardData) → 512 ≤ length bytes → little_number 2 bytes ≡ 65535 → integer_at bytes 2 ≡ pos others → others ≤ 100 → items_at (next_board_at (others + 1)) (others + 1) [] (drop 512 bytes) ≡ Ok bs
+file_of : (law : TilesAreRuns) (bytes : List ℕ) (others : ℕ) (bs : List BoardData) → 512 ≤ length bytes → little_number 2 bytes ≡ 65535
+    → integer_at bytes 2 ≡ pos others → others ≤ 100 → items_at (next_board_at (others + 1)) (others + 1) [] (drop 512 bytes) ≡ Ok bs
     → IsFileText (record { header = header_at (others + 1) bytes; boards = bs }) bytes
 file_of law bytes others bs long kind count few items =
     let many = items_many (next_board_at (others + 1)) (others + 1) (drop 512 bytes) bs items in
@@ -186,10 +206,12 @@ pub file_found : TilesAreRuns → (bytes : List ℕ) (w : Contents) → world_at
 unfolding world_at contents_at
 file_found law bytes w h =
     let made : ℕ → List BoardData → Contents = λ others bs. record { header = header_at (others + 1) bytes; boards = bs } in
-    let after : ℕ → Result Contents WorldError = λ others. items_at (next_board_at (others + 1)) (others + 1) [] (drop 512 bytes) >>= λ bs. Ok (made others bs) in
+    let after : ℕ → Result Contents WorldError =
+    λ others. items_at (next_board_at (others + 1)) (others + 1) [] (drop 512 bytes) >>= λ bs. Ok (made others bs) in
     let all = counted 100 fault.TooManyBoards (integer_at bytes 2) >>= after in
     let g1 = guard_ok (ltb (length bytes) 2) fault.Truncated (cond (not (eqb (little_number 2 bytes) 65535)) (Err fault.NotZzt) (cond (ltb (length bytes) 512) (Err fault.Truncated) all)) w h in
-    let g2 = guard_ok (not (eqb (little_number 2 bytes) 65535)) fault.NotZzt (cond (ltb (length bytes) 512) (Err fault.Truncated) all) w g1.1 in
+    let g2 =
+    guard_ok (not (eqb (little_number 2 bytes) 65535)) fault.NotZzt (cond (ltb (length bytes) 512) (Err fault.Truncated) all) w g1.1 in
     let g3 = guard_ok (ltb (length bytes) 512) fault.Truncated all w g2.1 in
     let c = bind_ok (counted 100 fault.TooManyBoards (integer_at bytes 2)) after w g3.1 in
     let b = bind_ok (items_at (next_board_at (c.0 + 1)) (c.0 + 1) [] (drop 512 bytes)) (λ (bs : List BoardData). Ok (made c.0 bs)) w c.2 in
@@ -202,10 +224,13 @@ file_read law bytes w i =
     let some = i.some in
     let few = i.few in
     let all : others + 1 ≡ length w.boards = omega arith in
-    let boards : items_at (next_board_at (others + 1)) (others + 1) [] (drop 512 bytes) ≡ Ok w.boards = rw all (boards_read law (length w.boards) bytes 512 w.boards [] i.boards) in
+    let boards : items_at (next_board_at (others + 1)) (others + 1) [] (drop 512 bytes) ≡ Ok w.boards =
+    rw all (boards_read law (length w.boards) bytes 512 w.boards [] i.boards) in
     let head : header_at (others + 1) bytes ≡ w.header = ap (λ (k : ℕ). header_at k bytes) all ∙ sym i.header in
     world_is bytes i.long i.type_word ∙ contents_is bytes others w.boards i.count (omega arith) boards ∙ ap (λ h. Ok (record w { header = h })) head
 
-pub spelled_by : ((bytes : List ℕ) (w : Contents) → world_at bytes ≡ Ok w → IsFileText w bytes) → (bytes : List ℕ) (r : Result Contents WorldError) → Gives (λ w. w) r (world_at bytes) → IfOk r (λ w. IsFileText w bytes)
+pub spelled_by : ((bytes : List ℕ) (w : Contents) → world_at bytes ≡ Ok w → IsFileText w bytes)
+    → (bytes : List ℕ) (r : Result Contents WorldError) → Gives (λ w. w) r (world_at bytes)
+    → IfOk r (λ w. IsFileText w bytes)
 spelled_by law bytes (Ok w) h = law bytes w h
 spelled_by law bytes (Err e) h = tt

@@ -30,10 +30,12 @@ record Counters (boards others : ℕ) (h : Header) (keys : List Bool) (bytes : L
   energizer_ticks : integer_at bytes 23 ≡ h.energizer_ticks
   score : integer_at bytes 27 ≡ h.score
 
-seven : (a b c d e f g p q r s t u v : Bool) → p ≡ a → q ≡ b → r ≡ c → s ≡ d → t ≡ e → u ≡ f → v ≡ g → p ∷ q ∷ r ∷ s ∷ t ∷ u ∷ v ∷ [] ≡ a ∷ b ∷ c ∷ d ∷ e ∷ f ∷ g ∷ []
+seven : (a b c d e f g p q r s t u v : Bool) → p ≡ a → q ≡ b → r ≡ c → s ≡ d → t ≡ e → u ≡ f → v ≡ g
+    → p ∷ q ∷ r ∷ s ∷ t ∷ u ∷ v ∷ [] ≡ a ∷ b ∷ c ∷ d ∷ e ∷ f ∷ g ∷ []
 seven a b c d e f g p q r s t u v i j k l m n o = rw (i, j, k, l, m, n, o) refl
 
-counters_again : (boards others : ℕ) (h : Header) (a b c d e f g : Bool) (rest : List ℕ) → boards ≤ 101 → others < 2 ^ 15 → IsNormalHeader boards h
+counters_again : (boards others : ℕ) (h : Header) (a b c d e f g : Bool) (rest : List ℕ) → boards ≤ 101 → others < 2 ^ 15
+    → IsNormalHeader boards h
     → Counters boards others h (a ∷ b ∷ c ∷ d ∷ e ∷ f ∷ g ∷ []) (first others h (a ∷ b ∷ c ∷ d ∷ e ∷ f ∷ g ∷ []) ++ rest)
 unfolding first integer integer_at zeros
 counters_again boards others h a b c d e f g rest le few n =
@@ -45,14 +47,18 @@ counters_again boards others h a b c d e f g rest le few n =
       gems = integer_again h.gems [] n.gems;
       keys_are = seven a b c d e f g _ _ _ _ _ _ _ (flag_again a []) (flag_again b []) (flag_again c []) (flag_again d []) (flag_again e []) (flag_again f []) (flag_again g []);
       health = integer_again h.health [] n.health;
-      current_board = ap (board_integer boards) (integer_again (pos h.current_board) [] (record { sfits = omega arith })) ∙ board_again boards h.current_board current;
+      current_board =
+          ap (board_integer boards) (integer_again (pos h.current_board) [] (record { sfits = omega arith }))
+          ∙ board_again boards h.current_board current;
       torches = integer_again h.torches [] n.torches;
       torch_ticks = integer_again h.torch_ticks [] n.torch_ticks;
       energizer_ticks = integer_again h.energizer_ticks [] n.energizer_ticks;
       score = integer_again h.score [] n.score;
     }
 
-any_keys : (boards others : ℕ) (h : Header) (keys : List Bool) (rest : List ℕ) → length keys ≡ 7 → boards ≤ 101 → others < 2 ^ 15 → IsNormalHeader boards h → Counters boards others h keys (first others h keys ++ rest)
+any_keys : (boards others : ℕ) (h : Header) (keys : List Bool) (rest : List ℕ) → length keys ≡ 7 → boards ≤ 101 → others < 2 ^ 15
+    → IsNormalHeader boards h
+    → Counters boards others h keys (first others h keys ++ rest)
 any_keys boards others h [] rest e le few n = absurd (omega arith)
 any_keys boards others h (a ∷ []) rest e le few n = absurd (omega arith)
 any_keys boards others h (a ∷ b ∷ []) rest e le few n = absurd (omega arith)
@@ -79,31 +85,39 @@ drop_past [] rest n i e = ap (λ (k : ℕ). drop k rest) (omega arith)
 drop_past (a ∷ front) rest zero i e = absurd (omega arith)
 drop_past (a ∷ front) rest (suc n) i e = let k : suc n + i ≡ suc (n + i) = omega arith in rw k (drop_past front rest n i (omega arith))
 
-string_past : (field : ℕ) (front rest : List ℕ) (n i : ℕ) → length front ≡ n → string_at field (front ++ rest) (n + i) ≡ string_at field rest i
+string_past : (field : ℕ) (front rest : List ℕ) (n i : ℕ) → length front ≡ n
+    → string_at field (front ++ rest) (n + i) ≡ string_at field rest i
 unfolding string_at
 string_past field front rest n i e =
     let k : suc (n + i) ≡ n + suc i = omega arith in
     rw (index_past front rest n i e, k, drop_past front rest n (suc i) e) refl
 
-flag_there : (fs : List (List ℕ)) (k : ℕ) (rest : List ℕ) → k < length fs → AllByRecursion (IsAtMost 20) fs → string_at 20 (flat_map (string 20) fs ++ rest) (21 * k) ≡ get_or fs k []
+flag_there : (fs : List (List ℕ)) (k : ℕ) (rest : List ℕ) → k < length fs → AllByRecursion (IsAtMost 20) fs
+    → string_at 20 (flat_map (string 20) fs ++ rest) (21 * k) ≡ get_or fs k []
 flag_there [] k rest lt h = absurd (omega arith)
-flag_there (f ∷ fs) zero rest lt h = ap (λ (x : List ℕ). string_at 20 x 0) (append_assoc (string 20 f) (flat_map (string 20) fs) rest) ∙ string_again 20 f (flat_map (string 20) fs ++ rest) h.0
+flag_there (f ∷ fs) zero rest lt h =
+    ap (λ (x : List ℕ). string_at 20 x 0) (append_assoc (string 20 f) (flat_map (string 20) fs) rest)
+    ∙ string_again 20 f (flat_map (string 20) fs ++ rest) h.0
 flag_there (f ∷ fs) (suc k) rest lt h =
     let place : 21 * suc k ≡ 21 + 21 * k = omega arith in
     ap (λ (x : List ℕ). string_at 20 x (21 * suc k)) (append_assoc (string 20 f) (flat_map (string 20) fs) rest) ∙ ap (string_at 20 (string 20 f ++ (flat_map (string 20) fs ++ rest))) place
     ∙ string_past 20 (string 20 f) (flat_map (string 20) fs ++ rest) 21 (21 * k) (length_string 20 f h.0) ∙ flag_there fs k rest (omega arith) h.1
 
-flags_again : (front : List ℕ) (fs : List (List ℕ)) (rest : List ℕ) (k : ℕ) → length front ≡ 50 → k ≤ length fs → AllByRecursion (IsAtMost 20) fs → flags_at k (front ++ (flat_map (string 20) fs ++ rest)) ≡ take k fs
+flags_again : (front : List ℕ) (fs : List (List ℕ)) (rest : List ℕ) (k : ℕ) → length front ≡ 50 → k ≤ length fs
+    → AllByRecursion (IsAtMost 20) fs
+    → flags_at k (front ++ (flat_map (string 20) fs ++ rest)) ≡ take k fs
 flags_again front fs rest zero e le h = refl
 flags_again front fs rest (suc k) e le h =
-    let one : string_at 20 (front ++ (flat_map (string 20) fs ++ rest)) (50 + 21 * k) ≡ get_or fs k [] = string_past 20 front (flat_map (string 20) fs ++ rest) 50 (21 * k) e ∙ flag_there fs k rest (omega arith) h in
+    let one : string_at 20 (front ++ (flat_map (string 20) fs ++ rest)) (50 + 21 * k) ≡ get_or fs k [] =
+    string_past 20 front (flat_map (string 20) fs ++ rest) 50 (21 * k) e ∙ flag_there fs k rest (omega arith) h in
     let next : suc k ≡ k + 1 = omega arith in
     ap (λ (x : List (List ℕ)). x ++ string_at 20 (front ++ (flat_map (string 20) fs ++ rest)) (50 + 21 * k) ∷ []) (flags_again front fs rest k e (omega arith) h)
     ∙ ap (λ (x : List ℕ). take k fs ++ x ∷ []) one ∙ sym (take_more fs k [] (omega arith)) ∙ ap (λ (i : ℕ). take i fs) (sym next)
 
 length_strings : (fs : List (List ℕ)) → AllByRecursion (IsAtMost 20) fs → length (flat_map (string 20) fs) ≡ 21 * length fs
 length_strings [] h = refl
-length_strings (f ∷ fs) h = omega (arith, length-append (string 20 f) (flat_map (string 20) fs), length_string 20 f h.0, length_strings fs h.1)
+length_strings (f ∷ fs) h =
+    omega (arith, length-append (string 20 f) (flat_map (string 20) fs), length_string 20 f h.0, length_strings fs h.1)
 
 -- ---- the end
 
@@ -128,10 +142,12 @@ saved_there h rest = flag_again h.saved []
 
 -- ---- all of it
 
-regroup : (f s g a b c z rest : List ℕ) → (((((f ++ (s ++ g)) ++ a) ++ b) ++ c) ++ z) ++ rest ≡ f ++ (s ++ (g ++ ((((a ++ b) ++ c) ++ z) ++ rest)))
+regroup : (f s g a b c z rest : List ℕ)
+    → (((((f ++ (s ++ g)) ++ a) ++ b) ++ c) ++ z) ++ rest ≡ f ++ (s ++ (g ++ ((((a ++ b) ++ c) ++ z) ++ rest)))
 regroup f s g a b c z rest = simp append_assoc
 
-parts_of : (others : ℕ) (h : Header) (rest : List ℕ) → header_text others h ++ rest ≡ first others h h.keys ++ (string 20 h.name ++ (flat_map (string 20) h.flags ++ (back_of h ++ rest)))
+parts_of : (others : ℕ) (h : Header) (rest : List ℕ)
+    → header_text others h ++ rest ≡ first others h h.keys ++ (string 20 h.name ++ (flat_map (string 20) h.flags ++ (back_of h ++ rest)))
 unfolding header_text first back_of
 parts_of others h rest = regroup (first others h h.keys) (string 20 h.name) (flat_map (string 20) h.flags) (integer h.time_passed) (integer h.hundredths) (flag h.saved) (zeros 247) rest
 
@@ -140,8 +156,10 @@ built ammo gems keys health current_board torches torch_ticks energizer_ticks sc
     record { ammo = ammo; gems = gems; keys = keys; health = health; current_board = current_board; torches = torches; torch_ticks = torch_ticks; energizer_ticks = energizer_ticks; score = score; name = name; flags = flags; time_passed = time_passed; hundredths = hundredths; saved = saved }
 
 built_is : (h : Header) (ammo gems : ℤ) (keys : List Bool) (health : ℤ) (current_board : ℕ) (torches torch_ticks energizer_ticks score : ℤ) (name : List ℕ) (flags : List (List ℕ)) (time_passed hundredths : ℤ) (saved : Bool)
-    → ammo ≡ h.ammo → gems ≡ h.gems → keys ≡ h.keys → health ≡ h.health → current_board ≡ h.current_board → torches ≡ h.torches → torch_ticks ≡ h.torch_ticks → energizer_ticks ≡ h.energizer_ticks → score ≡ h.score → name ≡ h.name → flags ≡ h.flags
-    → time_passed ≡ h.time_passed → hundredths ≡ h.hundredths → saved ≡ h.saved → built ammo gems keys health current_board torches torch_ticks energizer_ticks score name flags time_passed hundredths saved ≡ h
+    → ammo ≡ h.ammo → gems ≡ h.gems → keys ≡ h.keys → health ≡ h.health → current_board ≡ h.current_board → torches ≡ h.torches
+    → torch_ticks ≡ h.torch_ticks → energizer_ticks ≡ h.energizer_ticks → score ≡ h.score → name ≡ h.name → flags ≡ h.flags
+    → time_passed ≡ h.time_passed → hundredths ≡ h.hundredths → saved ≡ h.saved
+    → built ammo gems keys health current_board torches torch_ticks energizer_ticks score name flags time_passed hundredths saved ≡ h
 unfolding built
 built_is h ammo gems keys health current_board torches torch_ticks energizer_ticks score name flags time_passed hundredths saved a b c d e f g i j k l m n o = rw (a, b, c, d, e, f, g, i, j, k, l, m, n, o) refl
 
@@ -151,7 +169,8 @@ pub record Again (boards others : ℕ) (h : Header) (rest : List ℕ) : Type 0 w
   pub header : header_at boards (header_text others h ++ rest) ≡ h
   pub long : length (header_text others h) ≡ 512
 
-pub header_again : (boards others : ℕ) (h : Header) (rest : List ℕ) → boards ≤ 101 → others < 2 ^ 15 → IsNormalHeader boards h → Again boards others h rest
+pub header_again : (boards others : ℕ) (h : Header) (rest : List ℕ) → boards ≤ 101 → others < 2 ^ 15 → IsNormalHeader boards h
+    → Again boards others h rest
 unfolding header_at built
 header_again boards others h rest le few n =
     let f = first others h h.keys in
@@ -167,11 +186,17 @@ header_again boards others h rest le few n =
     let l3 : length ((f ++ s) ++ g) ≡ 260 = omega (arith, length-append (f ++ s) g, length_strings h.flags n.each_flag, n.flags) in
     let c : Counters boards others h h.keys bytes = subst (λ (x : List ℕ). Counters boards others h h.keys x) (sym e1) (any_keys boards others h h.keys (s ++ (g ++ after)) n.keys le few n) in
     let ten = n.flags in
-    let name : string_at 20 bytes 29 ≡ h.name = ap (λ (x : List ℕ). string_at 20 x 29) e1 ∙ string_past 20 f (s ++ (g ++ after)) 29 0 l1 ∙ string_again 20 h.name (g ++ after) n.name in
-    let flags : flags_at 10 bytes ≡ h.flags = ap (flags_at 10) e2 ∙ flags_again (f ++ s) h.flags after 10 l2 (omega arith) n.each_flag ∙ take_all 10 h.flags (omega arith) in
-    let time : integer_at bytes 260 ≡ h.time_passed = ap (λ (x : List ℕ). integer_at x 260) e3 ∙ integer_past ((f ++ s) ++ g) after 260 0 l3 ∙ time_there h rest n.time_passed in
-    let hundredths : integer_at bytes 262 ≡ h.hundredths = ap (λ (x : List ℕ). integer_at x 262) e3 ∙ integer_past ((f ++ s) ++ g) after 260 2 l3 ∙ hundredths_there h rest n.hundredths in
-    let saved : flag_at bytes 264 ≡ h.saved = ap (λ (x : List ℕ). flag_at x 264) e3 ∙ ap (λ (k : ℕ). ltb 0 k) (index_past ((f ++ s) ++ g) after 260 4 l3) ∙ saved_there h rest in
+    let name : string_at 20 bytes 29 ≡ h.name =
+    ap (λ (x : List ℕ). string_at 20 x 29) e1 ∙ string_past 20 f (s ++ (g ++ after)) 29 0 l1
+    ∙ string_again 20 h.name (g ++ after) n.name in
+    let flags : flags_at 10 bytes ≡ h.flags =
+    ap (flags_at 10) e2 ∙ flags_again (f ++ s) h.flags after 10 l2 (omega arith) n.each_flag ∙ take_all 10 h.flags (omega arith) in
+    let time : integer_at bytes 260 ≡ h.time_passed =
+    ap (λ (x : List ℕ). integer_at x 260) e3 ∙ integer_past ((f ++ s) ++ g) after 260 0 l3 ∙ time_there h rest n.time_passed in
+    let hundredths : integer_at bytes 262 ≡ h.hundredths =
+    ap (λ (x : List ℕ). integer_at x 262) e3 ∙ integer_past ((f ++ s) ++ g) after 260 2 l3 ∙ hundredths_there h rest n.hundredths in
+    let saved : flag_at bytes 264 ≡ h.saved =
+    ap (λ (x : List ℕ). flag_at x 264) e3 ∙ ap (λ (k : ℕ). ltb 0 k) (index_past ((f ++ s) ++ g) after 260 4 l3) ∙ saved_there h rest in
     record {
       kind = c.kind;
       others_is = c.others_is;

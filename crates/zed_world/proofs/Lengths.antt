@@ -32,7 +32,8 @@ pub canonical_length : (bytes : List ℕ) → IsCanonical bytes → length bytes
 unfolding written
 canonical_length bytes c = either (first_over 32767 0 c.world.boards) refl c.rewritten
   where
-    either : (o : Option WorldError) → first_over 32767 0 c.world.boards ≡ o → unless_refused o (world_text c.world) ≡ Ok bytes → length bytes ≤ 3310181
+    either : (o : Option WorldError) → first_over 32767 0 c.world.boards ≡ o → unless_refused o (world_text c.world) ≡ Ok bytes
+        → length bytes ≤ 3310181
     either (Some e) p q = absurd cc
     either None p q =
         let same : world_text c.world ≡ bytes = cc in

@@ -19,7 +19,9 @@ unfolding written
 within_written limit w h = ap (λ (o : Option WorldError). unless_refused o (world_text w)) h
 
 -- the text of a world without a board over the limit, or want of memory
-pub text_written : (limit : ℕ) (w : Contents) (r : Result (Vec ℕ) WorldError) → first_over limit 0 w.boards ≡ None → IfOk r (λ v. v.items ≡ world_text w) → IfErr r (λ e. e ≡ Memory) → Gives (λ v. v.items) r (written limit w)
+pub text_written : (limit : ℕ) (w : Contents) (r : Result (Vec ℕ) WorldError) → first_over limit 0 w.boards ≡ None
+    → IfOk r (λ v. v.items ≡ world_text w) → IfErr r (λ e. e ≡ Memory)
+    → Gives (λ v. v.items) r (written limit w)
 text_written limit w (Ok v) within h k = within_written limit w within ∙ ap (λ (t : List ℕ). Ok t) (sym h)
 text_written limit w (Err e) within h k = inl k
 
@@ -28,6 +30,8 @@ pub over_is_told : (limit n : ℕ) (bs : List BoardData) (e : WorldError) → fi
 over_is_told limit n [] e h m = absurd cc
 over_is_told limit n (b ∷ bs) e h m = either (over_is_told limit (n + 1) bs e) (ltb limit (length (body_text b))) h
   where
-    either : (first_over limit (n + 1) bs ≡ Some e → e ≡ Memory → ⊥) → (t : Bool) → cond t (Some (BoardOver n (length (body_text b)))) (first_over limit (n + 1) bs) ≡ Some e → ⊥
+    either : (first_over limit (n + 1) bs ≡ Some e → e ≡ Memory → ⊥) → (t : Bool)
+        → cond t (Some (BoardOver n (length (body_text b)))) (first_over limit (n + 1) bs) ≡ Some e
+        → ⊥
     either below true k = cc
     either below false k = below k m

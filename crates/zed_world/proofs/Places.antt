@@ -17,7 +17,8 @@ unfolding integer_at
 integer_there n i bytes = ap (λ (x : List ℕ). cast_signed w16 (little_number 2 x)) (drop_drop i n bytes)
 
 -- an element of a list with one more
-pub get_push : {A : Type 0} (xs : List A) (y : A) (n : ℕ) (x : A) → slice_get (xs ++ y ∷ []) n ≡ Some x → (slice_get xs n ≡ Some x) ⊎ ((n ≡ length xs) × (x ≡ y))
+pub get_push : {A : Type 0} (xs : List A) (y : A) (n : ℕ) (x : A) → slice_get (xs ++ y ∷ []) n ≡ Some x
+    → (slice_get xs n ≡ Some x) ⊎ ((n ≡ length xs) × (x ≡ y))
 get_push [] y zero x h = let same : y ≡ x = cc in inr (refl, rw same refl)
 get_push [] y (suc n) x h = absurd cc
 get_push (z ∷ xs) y zero x h = inl h

@@ -26,8 +26,10 @@ use Rattle.zed_world.proofs.Tiles.{tiles_long}
 
 -- ---- items
 
-pub items_keep : {A : Type 0} (P : List A → Type 0) (item : List A → List ℕ → Result (A × List ℕ) WorldError) → ((before : List A) (bytes : List ℕ) (x : A × List ℕ) → P before → item before bytes ≡ Ok x → P (before ++ x.0 ∷ []))
-    → (n : ℕ) (before : List A) (bytes : List ℕ) (xs : List A) → P before → items_at item n before bytes ≡ Ok xs → P xs × (length xs ≡ length before + n)
+pub items_keep : {A : Type 0} (P : List A → Type 0) (item : List A → List ℕ → Result (A × List ℕ) WorldError)
+    → ((before : List A) (bytes : List ℕ) (x : A × List ℕ) → P before → item before bytes ≡ Ok x → P (before ++ x.0 ∷ []))
+    → (n : ℕ) (before : List A) (bytes : List ℕ) (xs : List A) → P before → items_at item n before bytes ≡ Ok xs
+    → P xs × (length xs ≡ length before + n)
 unfolding items_at
 items_keep {A} P item keeps zero before bytes xs p h = let same : before ≡ xs = ok_is before xs h in (subst P same p, sym (ap length same) ∙ omega arith)
 items_keep {A} P item keeps (suc n) before bytes xs p h =
@@ -60,7 +62,8 @@ flags_fit : (n : ℕ) (bytes : List ℕ) → (length (flags_at n bytes) ≡ n) �
 flags_fit zero bytes = (refl, tt)
 flags_fit (suc n) bytes = (omega (arith, length_push (flags_at n bytes) (string_at 20 bytes (50 + 21 * n)), (flags_fit n bytes).0), all_more (flags_at n bytes) (string_at 20 bytes (50 + 21 * n)) (flags_fit n bytes).1 (string_fits 20 bytes (50 + 21 * n)))
   where
-    all_more : (fs : List (List ℕ)) (f : List ℕ) → AllByRecursion (IsAtMost 20) fs → IsAtMost 20 f → AllByRecursion (IsAtMost 20) (fs ++ f ∷ [])
+    all_more : (fs : List (List ℕ)) (f : List ℕ) → AllByRecursion (IsAtMost 20) fs → IsAtMost 20 f
+        → AllByRecursion (IsAtMost 20) (fs ++ f ∷ [])
     all_more [] f h k = (k, tt)
     all_more (g ∷ fs) f h k = (h.0, all_more fs f h.1 k)
 
@@ -106,7 +109,9 @@ code_more l m code.None h = tt
 code_more l m (code.Own bytes) h = h
 code_more l m (code.Same n) h = (h.0, h.1, h.2, get_more l m n h.1 h.3, h.4)
 
-code_among : (boards stats : ℕ) (tiles : List Tile) (lower ss : List StatData) (n : ℕ) (s : StatData) → AreNormalStats boards stats tiles lower ss → slice_get ss n ≡ Some s → IsNormalCode (lower ++ ss) s.code
+code_among : (boards stats : ℕ) (tiles : List Tile) (lower ss : List StatData) (n : ℕ) (s : StatData)
+    → AreNormalStats boards stats tiles lower ss → slice_get ss n ≡ Some s
+    → IsNormalCode (lower ++ ss) s.code
 code_among boards stats tiles lower [] n s h g = absurd cc
 code_among boards stats tiles lower (x ∷ ss) zero s h g =
     let same : x ≡ s = cc in
@@ -114,12 +119,16 @@ code_among boards stats tiles lower (x ∷ ss) zero s h g =
 code_among boards stats tiles lower (x ∷ ss) (suc n) s h g =
     subst (λ (l : List StatData). IsNormalCode l s.code) (append_assoc lower (x ∷ []) ss) (code_among boards stats tiles (lower ++ x ∷ []) ss n s h.1 g)
 
-shared_normal : (before : List StatData) (n : ℕ) (s : StatData) (c : Code) → 0 < n → slice_get before n ≡ Some s → s.code ≡ c → IsNormalCode before c → IsNormalCode before (shared n c)
+shared_normal : (before : List StatData) (n : ℕ) (s : StatData) (c : Code) → 0 < n → slice_get before n ≡ Some s → s.code ≡ c
+    → IsNormalCode before c
+    → IsNormalCode before (shared n c)
 shared_normal before n s code.None some g h k = tt
 shared_normal before n s (code.Own bytes) some g h k = (some, s, bytes, g, h)
 shared_normal before n s (code.Same m) some g h k = k
 
-code_normal : (boards stats : ℕ) (tiles : List Tile) (before : List StatData) (z : ℤ) (rest : List ℕ) (x : Code × List ℕ) → SFits w16 z → AreNormalStats boards stats tiles [] before → code_at before z rest ≡ Ok x → IsNormalCode before x.0
+code_normal : (boards stats : ℕ) (tiles : List Tile) (before : List StatData) (z : ℤ) (rest : List ℕ) (x : Code × List ℕ) → SFits w16 z
+    → AreNormalStats boards stats tiles [] before → code_at before z rest ≡ Ok x
+    → IsNormalCode before x.0
 unfolding code_at
 code_normal boards stats tiles before (pos zero) rest x fits h k =
     let none : Code × List ℕ = (code.None, rest) in
@@ -139,12 +148,15 @@ code_normal boards stats tiles before (negsuc n) rest x fits h k =
     let there : slice_get before (suc n) ≡ Some s = slice_get-get_or before (suc n) (stat_with 0 0 [] [] code.None) lt in
     let owner : IsNormalCode before s.code = code_among boards stats tiles [] before (suc n) s h there in
     let shares : IsNormalCode before (shared (suc n) s.code) = shared_normal before (suc n) s s.code (omega arith) there refl owner in
-    let shares_it : IsNormalCode before found.0 = subst (λ (o : Option StatData). IsNormalCode before (shared (suc n) (code_of o))) (sym there) shares in
+    let shares_it : IsNormalCode before found.0 =
+    subst (λ (o : Option StatData). IsNormalCode before (shared (suc n) (code_of o))) (sym there) shares in
     subst (λ (y : Code × List ℕ). IsNormalCode before y.0) (ok_is found x g.1) shares_it
 
 -- ---- stats
 
-with_normal : (boards stats : ℕ) (tiles : List Tile) (before : List StatData) (bytes : List ℕ) (c : Code) → 0 < boards → IsNormalCode before c → IsNormalStat boards stats tiles before (stat_with boards stats tiles bytes c)
+with_normal : (boards stats : ℕ) (tiles : List Tile) (before : List StatData) (bytes : List ℕ) (c : Code) → 0 < boards
+    → IsNormalCode before c
+    → IsNormalStat boards stats tiles before (stat_with boards stats tiles bytes c)
 unfolding stat_with
 with_normal boards stats tiles before bytes c some h = record {
   step_x = integer_fits bytes 2;
@@ -157,7 +169,9 @@ with_normal boards stats tiles before bytes c some h = record {
   code = h;
 }
 
-stat_normal : (boards stats : ℕ) (tiles : List Tile) (before : List StatData) (bytes : List ℕ) (x : StatData × List ℕ) → 0 < boards → AreNormalStats boards stats tiles [] before → stat_at boards stats tiles before bytes ≡ Ok x → IsNormalStat boards stats tiles before x.0
+stat_normal : (boards stats : ℕ) (tiles : List Tile) (before : List StatData) (bytes : List ℕ) (x : StatData × List ℕ) → 0 < boards
+    → AreNormalStats boards stats tiles [] before → stat_at boards stats tiles before bytes ≡ Ok x
+    → IsNormalStat boards stats tiles before x.0
 unfolding stat_at
 stat_normal boards stats tiles before bytes x some h k =
     let g = guard_ok (ltb (length bytes) 33) e.Truncated (code_at before (integer_at bytes 23) (drop 33 bytes) >>= λ program. Ok (stat_with boards stats tiles bytes program.0, program.1)) x k in
@@ -166,12 +180,16 @@ stat_normal boards stats tiles before bytes x some h k =
     let made : StatData × List ℕ = (stat_with boards stats tiles bytes o.0.0, o.0.1) in
     subst (λ (y : StatData × List ℕ). IsNormalStat boards stats tiles before y.0) (ok_is made x o.2) (with_normal boards stats tiles before bytes o.0.0 some program)
 
-stats_more : (boards stats : ℕ) (tiles : List Tile) (lower ss : List StatData) (s : StatData) → AreNormalStats boards stats tiles lower ss → IsNormalStat boards stats tiles (lower ++ ss) s → AreNormalStats boards stats tiles lower (ss ++ s ∷ [])
+stats_more : (boards stats : ℕ) (tiles : List Tile) (lower ss : List StatData) (s : StatData) → AreNormalStats boards stats tiles lower ss
+    → IsNormalStat boards stats tiles (lower ++ ss) s
+    → AreNormalStats boards stats tiles lower (ss ++ s ∷ [])
 stats_more boards stats tiles lower [] s h k = (subst (λ (l : List StatData). IsNormalStat boards stats tiles l s) (append-nil lower) k, tt)
 stats_more boards stats tiles lower (x ∷ ss) s h k =
     (h.0, stats_more boards stats tiles (lower ++ x ∷ []) ss s h.1 (subst (λ (l : List StatData). IsNormalStat boards stats tiles l s) (sym (append_assoc lower (x ∷ []) ss)) k))
 
-stats_normal : (boards stats n : ℕ) (tiles : List Tile) (bytes : List ℕ) (ss : List StatData) → 0 < boards → items_at (stat_at boards stats tiles) n [] bytes ≡ Ok ss → AreNormalStats boards stats tiles [] ss × (length ss ≡ n)
+stats_normal : (boards stats n : ℕ) (tiles : List Tile) (bytes : List ℕ) (ss : List StatData) → 0 < boards
+    → items_at (stat_at boards stats tiles) n [] bytes ≡ Ok ss
+    → AreNormalStats boards stats tiles [] ss × (length ss ≡ n)
 stats_normal boards stats n tiles bytes ss some h =
     let r = items_keep (λ (l : List StatData). AreNormalStats boards stats tiles [] l) (stat_at boards stats tiles) (λ before b x p k. stats_more boards stats tiles [] before x.0 p (stat_normal boards stats tiles before b x some p k)) n [] bytes ss tt h in
     (r.0, omega (arith, r.1))
@@ -201,7 +219,9 @@ board_normal boards body b some h =
     } in
     subst (λ (y : BoardData). IsNormalBoard boards y) p.is it
 
-next_normal : (boards : ℕ) (before : List BoardData) (bytes : List ℕ) (x : BoardData × List ℕ) → 0 < boards → next_board_at boards before bytes ≡ Ok x → IsNormalBoard boards x.0
+next_normal : (boards : ℕ) (before : List BoardData) (bytes : List ℕ) (x : BoardData × List ℕ) → 0 < boards
+    → next_board_at boards before bytes ≡ Ok x
+    → IsNormalBoard boards x.0
 unfolding next_board_at
 next_normal boards before bytes x some h =
     let o = bind_ok (body_at bytes) (λ (body : List ℕ × List ℕ). board_at boards body.0 >>= λ board. Ok (board, body.1)) x h in
@@ -209,12 +229,14 @@ next_normal boards before bytes x some h =
     let made : BoardData × List ℕ = (b.0, o.0.1) in
     subst (λ (y : BoardData × List ℕ). IsNormalBoard boards y.0) (ok_is made x b.2) (board_normal boards o.0.0 b.0 some b.1)
 
-boards_normal : (boards n : ℕ) (bytes : List ℕ) (bs : List BoardData) → 0 < boards → items_at (next_board_at boards) n [] bytes ≡ Ok bs → AllByRecursion (IsNormalBoard boards) bs × (length bs ≡ n)
+boards_normal : (boards n : ℕ) (bytes : List ℕ) (bs : List BoardData) → 0 < boards → items_at (next_board_at boards) n [] bytes ≡ Ok bs
+    → AllByRecursion (IsNormalBoard boards) bs × (length bs ≡ n)
 boards_normal boards n bytes bs some h =
     let r = items_keep (AllByRecursion (IsNormalBoard boards)) (next_board_at boards) (λ before b x p k. all_more before x.0 p (next_normal boards before b x some k)) n [] bytes bs tt h in
     (r.0, omega (arith, r.1))
   where
-    all_more : (xs : List BoardData) (x : BoardData) → AllByRecursion (IsNormalBoard boards) xs → IsNormalBoard boards x → AllByRecursion (IsNormalBoard boards) (xs ++ x ∷ [])
+    all_more : (xs : List BoardData) (x : BoardData) → AllByRecursion (IsNormalBoard boards) xs → IsNormalBoard boards x
+        → AllByRecursion (IsNormalBoard boards) (xs ++ x ∷ [])
     all_more [] x p q = (q, tt)
     all_more (y ∷ xs) x p q = (p.0, all_more xs x p.1 q)
 
@@ -222,7 +244,8 @@ pub contents_normal : (bytes : List ℕ) (w : Contents) → contents_at bytes �
 unfolding contents_at
 contents_normal bytes w h =
     let made : ℕ → List BoardData → Contents = λ others bs. record { header = header_at (others + 1) bytes; boards = bs } in
-    let after : ℕ → Result Contents WorldError = λ others. items_at (next_board_at (others + 1)) (others + 1) [] (drop 512 bytes) >>= λ bs. Ok (made others bs) in
+    let after : ℕ → Result Contents WorldError =
+    λ others. items_at (next_board_at (others + 1)) (others + 1) [] (drop 512 bytes) >>= λ bs. Ok (made others bs) in
     let c = bind_ok (counted 100 e.TooManyBoards (integer_at bytes 2)) after w h in
     let others = c.0 in
     let few = counted_fits 100 e.TooManyBoards (integer_at bytes 2) others c.1 in

@@ -29,7 +29,8 @@ text_canonical law w n short = record {
   rewritten = ap (λ (o : Option WorldError). unless_refused o (world_text w)) (none_over 0 w.boards short);
 }
 
-canonical_of : WrittenIsRead → (limit : ℕ) (w : Contents) (text : List ℕ) → limit ≤ 32767 → HasNormalParts w → written limit w ≡ Ok text → IsCanonical text
+canonical_of : WrittenIsRead → (limit : ℕ) (w : Contents) (text : List ℕ) → limit ≤ 32767 → HasNormalParts w → written limit w ≡ Ok text
+    → IsCanonical text
 unfolding written
 canonical_of law limit w text le n h = either (first_over limit 0 w.boards) refl h
   where
@@ -39,13 +40,17 @@ canonical_of law limit w text le n h = either (first_over limit 0 w.boards) refl
         let same : world_text w ≡ text = cc in
         subst (λ (t : List ℕ). IsCanonical t) same (text_canonical law w n (short_within limit 0 w.boards le p))
 
-pub written_canonical : WrittenIsRead → (limit : ℕ) (w : Contents) (r : Result (Vec ℕ) WorldError) → limit ≤ 32767 → HasNormalParts w → Gives (λ v. v.items) r (written limit w) → IfOk r (λ v. IsCanonical v.items)
+pub written_canonical : WrittenIsRead → (limit : ℕ) (w : Contents) (r : Result (Vec ℕ) WorldError) → limit ≤ 32767 → HasNormalParts w
+    → Gives (λ v. v.items) r (written limit w)
+    → IfOk r (λ v. IsCanonical v.items)
 written_canonical law limit w (Ok v) le n h = canonical_of law limit w v.items le n h
 written_canonical law limit w (Err e) le n h = tt
 
 -- ---- the test
 
-rewritten : (bytes : List ℕ) (w : Contents) (r : Result (List ℕ) WorldError) → world_at bytes ≡ Ok w → written 32767 w ≡ r → is_text_of bytes r ≡ true → IsCanonical bytes
+rewritten : (bytes : List ℕ) (w : Contents) (r : Result (List ℕ) WorldError) → world_at bytes ≡ Ok w → written 32767 w ≡ r
+    → is_text_of bytes r ≡ true
+    → IsCanonical bytes
 rewritten bytes w (Ok text) p q h =
     let same : bytes ≡ text = (bytes_eq-Decides bytes text).0 h in
     record { world = w; read = p; rewritten = q ∙ ap Ok (sym same) }

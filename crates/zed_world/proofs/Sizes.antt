@@ -49,7 +49,8 @@ length_properties p le =
     let z : length (zeros 16) ≡ 16 = length_zeros 16 in
     omega (arith, length-append (((a ++ m) ++ s) ++ t) (zeros 16), length-append ((a ++ m) ++ s) t, length-append (a ++ m) s, length-append a m, length_string 58 p.message le, length_integer p.time_limit)
 
-pub length_body : (b : BoardData) → length b.name ≤ 50 → length b.properties.message ≤ 58 → length (body_text b) ≡ 139 + length (greedy b.tiles) + length (flat_map stat_text b.stats)
+pub length_body : (b : BoardData) → length b.name ≤ 50 → length b.properties.message ≤ 58
+    → length (body_text b) ≡ 139 + length (greedy b.tiles) + length (flat_map stat_text b.stats)
 unfolding body_text
 length_body b name message =
     let s = string 50 b.name in
@@ -60,7 +61,8 @@ length_body b name message =
     omega (arith, length-append (((s ++ g) ++ p) ++ n) t, length-append ((s ++ g) ++ p) n, length-append (s ++ g) p, length-append s g, length_string 50 b.name name, length_properties b.properties message, length_integer (pos (length b.stats - 1)))
 
 -- one more stat in a count
-pub stats_more : (ss : List StatData) (i : ℕ) (s : StatData) → i < length ss → s ≡ get_or ss i s → length (flat_map stat_text (take (suc i) ss)) ≡ length (flat_map stat_text (take i ss)) + (33 + length (code_text s.code))
+pub stats_more : (ss : List StatData) (i : ℕ) (s : StatData) → i < length ss → s ≡ get_or ss i s
+    → length (flat_map stat_text (take (suc i) ss)) ≡ length (flat_map stat_text (take i ss)) + (33 + length (code_text s.code))
 stats_more [] i s lt e = absurd (omega arith)
 stats_more (x ∷ xs) zero s lt e =
     let one = length_stat x in

@@ -34,13 +34,15 @@ record FoundStat (boards stats : ℕ) (tiles : List Tile) (body places : List �
   within : stat_end body place ≤ length body
   rest_is : rest ≡ drop (stat_end body place) body
 
-stat_found : (boards stats : ℕ) (tiles : List Tile) (body places : List ℕ) (place : ℕ) (done : List StatData) (x : StatData × List ℕ) → length places ≡ length done → AllPlaced boards stats tiles body places done
+stat_found : (boards stats : ℕ) (tiles : List Tile) (body places : List ℕ) (place : ℕ) (done : List StatData) (x : StatData × List ℕ)
+    → length places ≡ length done → AllPlaced boards stats tiles body places done
     → stat_at boards stats tiles done (drop place body) ≡ Ok x → FoundStat boards stats tiles body places (length done) place x.0 x.1
 unfolding stat_at stat_with
 stat_found boards stats tiles body places place done x long all h =
     let bytes = drop place body in
     let made : Code × List ℕ → StatData × List ℕ = λ p. (stat_with boards stats tiles bytes p.0, p.1) in
-    let g = guard_ok (ltb (length bytes) 33) fault.Truncated (code_at done (integer_at bytes 23) (drop 33 bytes) >>= λ p. Ok (made p)) x h in
+    let g =
+    guard_ok (ltb (length bytes) 33) fault.Truncated (code_at done (integer_at bytes 23) (drop 33 bytes) >>= λ p. Ok (made p)) x h in
     let o = bind_ok (code_at done (integer_at bytes 23) (drop 33 bytes)) (λ (p : Code × List ℕ). Ok (made p)) x g.1 in
     let whole : 33 ≤ length bytes = ltb-false _ _ g.0 in
     let read : code_at done (length_field body place) (drop (place + 33) body) ≡ Ok o.0 =
@@ -52,8 +54,10 @@ stat_found boards stats tiles body places place done x long all h =
       rest_is = f.rest_is;
     })
 
-all_more : (boards stats : ℕ) (tiles : List Tile) (body places : List ℕ) (place : ℕ) (done : List StatData) (s : StatData) → length places ≡ length done → AllPlaced boards stats tiles body places done
-    → Placed boards stats tiles body (places ++ place ∷ []) (length done) place s → AllPlaced boards stats tiles body (places ++ place ∷ []) (done ++ s ∷ [])
+all_more : (boards stats : ℕ) (tiles : List Tile) (body places : List ℕ) (place : ℕ) (done : List StatData) (s : StatData)
+    → length places ≡ length done → AllPlaced boards stats tiles body places done
+    → Placed boards stats tiles body (places ++ place ∷ []) (length done) place s
+    → AllPlaced boards stats tiles body (places ++ place ∷ []) (done ++ s ∷ [])
 all_more boards stats tiles body places place done s long all new = λ n p t a b.
     elim (get_push places place n p a) [
       | inl there ↦ elim (get_push done s n t b) [
@@ -72,7 +76,8 @@ pub record FoundStats (boards stats : ℕ) (tiles : List Tile) (body lower : Lis
   pub as_many : length (lower ++ places) ≡ length ss
   pub all : AllPlaced boards stats tiles body (lower ++ places) ss
 
-pub stats_found : (boards stats : ℕ) (tiles : List Tile) (body : List ℕ) (n : ℕ) (lower : List ℕ) (done : List StatData) (at : ℕ) (ss : List StatData) → length lower ≡ length done → AllPlaced boards stats tiles body lower done
+pub stats_found : (boards stats : ℕ) (tiles : List Tile) (body : List ℕ) (n : ℕ) (lower : List ℕ) (done : List StatData) (at : ℕ) (ss : List StatData)
+    → length lower ≡ length done → AllPlaced boards stats tiles body lower done
     → items_at (stat_at boards stats tiles) n done (drop at body) ≡ Ok ss → FoundStats boards stats tiles body lower at ss
 unfolding items_at
 stats_found boards stats tiles body zero lower done at ss long all h =
@@ -87,7 +92,8 @@ stats_found boards stats tiles body (suc n) lower done at ss long all h =
     let o = bind_ok (stat_at boards stats tiles done (drop at body)) (λ (next : StatData × List ℕ). items_at (stat_at boards stats tiles) n (done ++ next.0 ∷ []) next.1) ss h in
     let s = o.0.0 in
     let f = stat_found boards stats tiles body lower at done o.0 long all o.1 in
-    let left : items_at (stat_at boards stats tiles) n (done ++ s ∷ []) (drop (stat_end body at) body) ≡ Ok ss = sym (ap (items_at (stat_at boards stats tiles) n (done ++ s ∷ [])) f.rest_is) ∙ o.2 in
+    let left : items_at (stat_at boards stats tiles) n (done ++ s ∷ []) (drop (stat_end body at) body) ≡ Ok ss =
+    sym (ap (items_at (stat_at boards stats tiles) n (done ++ s ∷ [])) f.rest_is) ∙ o.2 in
     let r = stats_found boards stats tiles body n (lower ++ at ∷ []) (done ++ s ∷ []) (stat_end body at) ss (omega (arith, length_push lower at, length_push done s)) (all_more boards stats tiles body lower at done s long all f.placed) left in
     let whole : (lower ++ at ∷ []) ++ r.places ≡ lower ++ at ∷ r.places = append_assoc lower (at ∷ []) r.places in
     record {
@@ -99,8 +105,11 @@ stats_found boards stats tiles body (suc n) lower done at ss long all h =
 
 -- ---- what stands there is read
 
-stat_read : (boards stats : ℕ) (tiles : List Tile) (body places : List ℕ) (place : ℕ) (done : List StatData) (s : StatData) → slice_get places (length done) ≡ Some place → stat_end body place ≤ length body → Placed boards stats tiles body places (length done) place s
-    → ((k : ℕ) (t : StatData) → slice_get done k ≡ Some t → IsCode body places k t.code) → stat_at boards stats tiles done (drop place body) ≡ Ok (s, drop (stat_end body place) body)
+stat_read : (boards stats : ℕ) (tiles : List Tile) (body places : List ℕ) (place : ℕ) (done : List StatData) (s : StatData)
+    → slice_get places (length done) ≡ Some place → stat_end body place ≤ length body
+    → Placed boards stats tiles body places (length done) place s
+    → ((k : ℕ) (t : StatData) → slice_get done k ≡ Some t → IsCode body places k t.code)
+    → stat_at boards stats tiles done (drop place body) ≡ Ok (s, drop (stat_end body place) body)
 unfolding stat_at
 stat_read boards stats tiles body places place done s there within p codes =
     let bytes = drop place body in
@@ -111,15 +120,20 @@ stat_read boards stats tiles body places place done s there within p codes =
     let is : stat_with boards stats tiles bytes s.code ≡ s = sym p.fields in
     rw (test, code) (ap (λ (y : StatData). Ok (y, drop (stat_end body place) body)) is)
 
-pub stats_read : (boards stats : ℕ) (tiles : List Tile) (body places : List ℕ) (ss : List StatData) (rest : List ℕ) (left : List StatData) (lower : List ℕ) (done : List StatData) (at : ℕ) → length lower ≡ length done → length rest ≡ length left
-    → lower ++ rest ≡ places → done ++ left ≡ ss → StandFrom body at rest → AllPlaced boards stats tiles body places ss → items_at (stat_at boards stats tiles) (length left) done (drop at body) ≡ Ok ss
+pub stats_read : (boards stats : ℕ) (tiles : List Tile) (body places : List ℕ) (ss : List StatData) (rest : List ℕ) (left : List StatData) (lower : List ℕ) (done : List StatData) (at : ℕ)
+    → length lower ≡ length done → length rest ≡ length left
+    → lower ++ rest ≡ places → done ++ left ≡ ss → StandFrom body at rest → AllPlaced boards stats tiles body places ss
+    → items_at (stat_at boards stats tiles) (length left) done (drop at body) ≡ Ok ss
 unfolding items_at
-stats_read boards stats tiles body places ss [] [] lower done at long same p q stand all = ap (λ (y : List StatData). Ok y) (sym (append-nil done) ∙ q)
+stats_read boards stats tiles body places ss [] [] lower done at long same p q stand all =
+    ap (λ (y : List StatData). Ok y) (sym (append-nil done) ∙ q)
 stats_read boards stats tiles body places ss [] (s ∷ left) lower done at long same p q stand all = absurd (omega arith)
 stats_read boards stats tiles body places ss (place ∷ rest) [] lower done at long same p q stand all = absurd (omega arith)
 stats_read boards stats tiles body places ss (place ∷ rest) (s ∷ left) lower done at long same p q stand all =
     let here : place ≡ at = stand.0 in
-    let there : slice_get places (length done) ≡ Some at = ap (slice_get places) (sym long) ∙ ap (λ (y : List ℕ). slice_get y (length lower)) (sym p) ∙ get_last lower rest place ∙ ap (λ (k : ℕ). Some k) here in
+    let there : slice_get places (length done) ≡ Some at =
+    ap (slice_get places) (sym long) ∙ ap (λ (y : List ℕ). slice_get y (length lower)) (sym p) ∙ get_last lower rest place
+    ∙ ap (λ (k : ℕ). Some k) here in
     let stat : slice_get ss (length done) ≡ Some s = ap (λ (y : List StatData). slice_get y (length done)) (sym q) ∙ get_last done left s in
     let total : length places ≡ length lower + suc (length rest) = sym (ap length p) ∙ length-append lower (place ∷ rest) in
     let codes : (k : ℕ) (t : StatData) → slice_get done k ≡ Some t → IsCode body places k t.code = λ k t h.

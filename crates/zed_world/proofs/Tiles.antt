@@ -9,7 +9,8 @@ use Rattle.zed_runs.specs.Reading.{followed_by, tiles_at}
 abbrev pub GreedyIsRead : Type 0
 GreedyIsRead = (tiles : List Tile) (rest : List ℕ) → length tiles ≡ 1500 → tiles_at 1500 (greedy tiles ++ rest) ≡ Some (tiles, rest)
 
-followed_is : (tiles : List Tile) (r : Option (List Tile × List ℕ)) (y : List Tile × List ℕ) → followed_by tiles r ≡ Some y → (x : List Tile × List ℕ) × (r ≡ Some x) × (tiles ++ x.0 ≡ y.0)
+followed_is : (tiles : List Tile) (r : Option (List Tile × List ℕ)) (y : List Tile × List ℕ) → followed_by tiles r ≡ Some y
+    → (x : List Tile × List ℕ) × (r ≡ Some x) × (tiles ++ x.0 ≡ y.0)
 followed_is tiles (Some x) y h = (x, refl, first (tiles ++ x.0, x.1) y h)
   where
     first : (p q : List Tile × List ℕ) → Some p ≡ Some q → p.0 ≡ q.0

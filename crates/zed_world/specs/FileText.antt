@@ -91,7 +91,8 @@ pub record IsBody (boards : ℕ) (b : BoardData) (body : List ℕ) : Type 0 wher
   pub places : List ℕ
   pub as_many : length places ≡ length b.stats
   pub stand : StandFrom body (51 + runs + 88) places
-  pub stats : (n place : ℕ) (s : StatData) → slice_get places n ≡ Some place → slice_get b.stats n ≡ Some s → IsStat boards b body places n place s
+  pub stats : (n place : ℕ) (s : StatData) → slice_get places n ≡ Some place → slice_get b.stats n ≡ Some s
+      → IsStat boards b body places n place s
 
 -- ---- the file
 

@@ -53,7 +53,8 @@ pub record IsNormalProperties (boards : ℕ) (p : Properties) : Type 0 where
 abbrev pub IsNormalCode : List StatData → Code → Type 0
 IsNormalCode lower code.None = Unit {0}
 IsNormalCode lower (code.Own bytes) = (0 < length bytes) × (length bytes < 2 ^ 15)
-IsNormalCode lower (code.Same n) = (0 < n) × (owner : StatData) × (bytes : List ℕ) × (slice_get lower n ≡ Some owner) × (owner.code ≡ code.Own bytes)
+IsNormalCode lower (code.Same n) =
+    (0 < n) × (owner : StatData) × (bytes : List ℕ) × (slice_get lower n ≡ Some owner) × (owner.code ≡ code.Own bytes)
 
 -- a stat above these lower ones, of so many
 pub record IsNormalStat (boards stats : ℕ) (tiles : List Tile) (lower : List StatData) (s : StatData) : Type 0 where
@@ -69,7 +70,8 @@ pub record IsNormalStat (boards stats : ℕ) (tiles : List Tile) (lower : List S
 -- stats above these lower ones
 abbrev pub AreNormalStats : ℕ → ℕ → List Tile → List StatData → List StatData → Type 0
 AreNormalStats boards stats tiles lower [] = Unit {0}
-AreNormalStats boards stats tiles lower (s ∷ ss) = IsNormalStat boards stats tiles lower s × AreNormalStats boards stats tiles (lower ++ s ∷ []) ss
+AreNormalStats boards stats tiles lower (s ∷ ss) =
+    IsNormalStat boards stats tiles lower s × AreNormalStats boards stats tiles (lower ++ s ∷ []) ss
 
 -- a board, in a world of so many boards
 pub record IsNormalBoard (boards : ℕ) (b : BoardData) : Type 0 where

@@ -31,7 +31,8 @@ counted limit e (pos n) = if nat_le n limit then Ok n else Err e
 counted limit e (negsuc n) = Err e
 
 -- so many more items after these, each read knowing those before it
-unfoldable pub items_at : {A : Type 0} → (List A → List ℕ → Result (A × List ℕ) WorldError) → ℕ → List A → List ℕ → Result (List A) WorldError
+unfoldable pub items_at : {A : Type 0} → (List A → List ℕ → Result (A × List ℕ) WorldError) → ℕ → List A → List ℕ
+    → Result (List A) WorldError
 items_at item zero done bytes = Ok done
 items_at item (suc n) done bytes = do
   next ← item done bytes
@@ -53,8 +54,10 @@ code_of (Some stat) = stat.code
 -- the program by its length, after these stats, and what follows it
 unfoldable pub code_at : List StatData → ℤ → List ℕ → Result (Code × List ℕ) WorldError
 code_at done (pos zero) rest = Ok (code.None, rest)
-code_at done (pos (suc n)) rest = if nat_lt (length rest) (suc n) then Err Truncated else Ok (code.Own (take (suc n) rest), drop (suc n) rest)
-code_at done (negsuc n) rest = if nat_lt (suc n) (length done) then Ok (shared (suc n) (code_of (slice_get done (suc n))), rest) else Err BadShare
+code_at done (pos (suc n)) rest =
+    if nat_lt (length rest) (suc n) then Err Truncated else Ok (code.Own (take (suc n) rest), drop (suc n) rest)
+code_at done (negsuc n) rest =
+    if nat_lt (suc n) (length done) then Ok (shared (suc n) (code_of (slice_get done (suc n))), rest) else Err BadShare
 
 -- the next stat after these, and what follows it
 unfoldable pub stat_at : ℕ → ℕ → List Tile → List StatData → List ℕ → Result (StatData × List ℕ) WorldError

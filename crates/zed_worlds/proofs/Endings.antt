@@ -15,28 +15,40 @@ use Rattle.zed_worlds.specs.Made.{IsMade, file_of, report_on, ComesToSave, Comes
 use Rattle.zed_worlds.specs.Stage.{Stage}
 use Rattle.zed_files.proofs.Endings.{collected_so, refused_ends}
 
-made_so : (p q : Type 0) (t : HostContents) (names : List (List ℕ)) (make : List Edit → Result (List ℕ) Refusal) (m : Result (List ℕ) Refusal) → (p → q) → IsMade p t names make m → IsMade q t names make m
+made_so : (p q : Type 0) (t : HostContents) (names : List (List ℕ)) (make : List Edit → Result (List ℕ) Refusal) (m : Result (List ℕ) Refusal)
+    → (p → q) → IsMade p t names make m
+    → IsMade q t names make m
 made_so p q t names make m so made = (made.0, collected_so p q t names made.0 so made.1, made.2)
 
-pub save_so : (t : HostContents) (limit : ℕ) (out : List ℕ) (files : List (List ℕ)) (p q : Type 0) (r : Result Effect Refusal) → (p → q) → ComesToSave p t limit out files r → ComesToSave q t limit out files r
+pub save_so : (t : HostContents) (limit : ℕ) (out : List ℕ) (files : List (List ℕ)) (p q : Type 0) (r : Result Effect Refusal) → (p → q)
+    → ComesToSave p t limit out files r
+    → ComesToSave q t limit out files r
 save_so t limit out files p q r so is = (is.0, made_so p q t files (file_of limit) is.0 so is.1, is.2)
 
-pub check_so : (t : HostContents) (limit : ℕ) (files : List (List ℕ)) (p q : Type 0) (r : Result Effect Refusal) → (p → q) → ComesToCheck p t limit files r → ComesToCheck q t limit files r
+pub check_so : (t : HostContents) (limit : ℕ) (files : List (List ℕ)) (p q : Type 0) (r : Result Effect Refusal) → (p → q)
+    → ComesToCheck p t limit files r
+    → ComesToCheck q t limit files r
 check_so t limit files p q r so is = (is.0, made_so p q t files (report_on limit) is.0 so is.1, is.2)
 
-pub show_so : (old new : Stage) (t : HostContents) (limit board : ℕ) (files : List (List ℕ)) (p q : Type 0) (r : Result Effect Refusal) → (p → q) → ComesToShow p old new t limit board files r → ComesToShow q old new t limit board files r
+pub show_so : (old new : Stage) (t : HostContents) (limit board : ℕ) (files : List (List ℕ)) (p q : Type 0) (r : Result Effect Refusal)
+    → (p → q) → ComesToShow p old new t limit board files r
+    → ComesToShow q old new t limit board files r
 show_so old new t limit board files p q r so is = (is.0, is.1, collected_so p q t files is.0 so is.2, is.3, is.4)
 
-file_so : (old new : Stage) (p q : Type 0) (t : HostContents) (names : List (List ℕ)) (read : Option (List ℕ)) (limit board : ℕ) (r : Result (List ℕ) Refusal) → (p → q)
+file_so : (old new : Stage) (p q : Type 0) (t : HostContents) (names : List (List ℕ)) (read : Option (List ℕ)) (limit board : ℕ) (r : Result (List ℕ) Refusal)
+    → (p → q)
     → PlaysFile old new read limit board (Collects p t names) r → PlaysFile old new read limit board (Collects q t names) r
 file_so old new p q t names None limit board r so is = is
 file_so old new p q t names (Some bytes) limit board r so is = (is.0, collected_so p q t names is.0 so is.1, is.2)
 
-played_so : (old new : Stage) (p q : Type 0) (t : HostContents) (limit board : ℕ) (chance : List ℕ) (files : List (List ℕ)) (r : Result (List ℕ) Refusal) → (p → q)
+played_so : (old new : Stage) (p q : Type 0) (t : HostContents) (limit board : ℕ) (chance : List ℕ) (files : List (List ℕ)) (r : Result (List ℕ) Refusal)
+    → (p → q)
     → IsPlayedOf p old new t limit board chance files r → IsPlayedOf q old new t limit board chance files r
-played_so old new p q t limit board chance files r so is = (is.0, read_so p q t chance is.0 so is.1, file_so old new p q t files is.0 limit board r so is.2)
+played_so old new p q t limit board chance files r so is =
+    (is.0, read_so p q t chance is.0 so is.1, file_so old new p q t files is.0 limit board r so is.2)
 
-pub play_so : (old new : Stage) (t : HostContents) (limit board : ℕ) (chance : List ℕ) (files : List (List ℕ)) (p q : Type 0) (r : Result Effect Refusal) → (p → q)
+pub play_so : (old new : Stage) (t : HostContents) (limit board : ℕ) (chance : List ℕ) (files : List (List ℕ)) (p q : Type 0) (r : Result Effect Refusal)
+    → (p → q)
     → ComesToPlay p old new t limit board chance files r → ComesToPlay q old new t limit board chance files r
 play_so old new t limit board chance files p q r so is = (is.0, played_so old new p q t limit board chance files is.0 so is.1, is.2)
 
@@ -46,7 +58,8 @@ pub not_made : (failed : Type 0) (t : HostContents) (names : List (List ℕ)) (m
 not_made failed t names make e why = elim why [ inl memory ↦ inl memory | inr first ↦ inr (Err e, first, refl) ]
 
 -- what a function made of the set
-pub made_result : (failed : Type 0) (result : Result (Vec ℕ) Refusal) (t : HostContents) (names : List (List ℕ)) (make : List Edit → Result (List ℕ) Refusal) (es : List Edit) → Collects failed t names (Ok es)
+pub made_result : (failed : Type 0) (result : Result (Vec ℕ) Refusal) (t : HostContents) (names : List (List ℕ)) (make : List Edit → Result (List ℕ) Refusal) (es : List Edit)
+    → Collects failed t names (Ok es)
     → MatchResult result (λ bytes. make es ≡ Ok bytes.items) (λ e. (e ≡ Memory) ⊎ (make es ≡ Err e))
     → MatchResult result (λ bytes. IsMade failed t names make (Ok bytes.items)) (λ e. (e ≡ Memory) ⊎ IsMade failed t names make (Err e))
 made_result failed (Ok bytes) t names make es all is = (Ok es, all, sym is)
@@ -64,7 +77,8 @@ not_reported failed limit names t e why = elim why [ inl memory ↦ inl memory |
 
 -- and nothing told of a playtest
 pub not_played : (failed : Type 0) (old new : Stage) (limit board : ℕ) (chance : List ℕ) (names : List (List ℕ)) (t : HostContents) (e : Refusal)
-    → ((e ≡ Memory) × (new ≡ old)) ⊎ IsPlayedOf failed old new t limit board chance names (Err e) → (e ≡ Memory) ⊎ ComesToPlay failed old new t limit board chance names (Err e)
+    → ((e ≡ Memory) × (new ≡ old)) ⊎ IsPlayedOf failed old new t limit board chance names (Err e)
+    → (e ≡ Memory) ⊎ ComesToPlay failed old new t limit board chance names (Err e)
 not_played failed old new limit board chance names t e why = elim why [ inl memory ↦ inl memory.0 | inr is ↦ inr (Err e, is, refl) ]
 
 -- a command that answers this
@@ -73,7 +87,8 @@ refused e = Err e
 
 -- what is so of the stage where that was for want of memory
 pub lacks_for_play : (failed : Type 0) (old new : Stage) (limit board : ℕ) (chance : List ℕ) (names : List (List ℕ)) (t : HostContents) (e : Refusal)
-    → ((e ≡ Memory) × (new ≡ old)) ⊎ IsPlayedOf failed old new t limit board chance names (Err e) → refused e ≡ Err Memory → LacksForPlay failed old new t limit board chance names
+    → ((e ≡ Memory) × (new ≡ old)) ⊎ IsPlayedOf failed old new t limit board chance names (Err e) → refused e ≡ Err Memory
+    → LacksForPlay failed old new t limit board chance names
 lacks_for_play failed old new limit board chance names t e why is = elim why [
   | inl memory ↦ inl memory.1
   | inr played ↦ inr (let same : e ≡ Memory = cc in subst (λ e. IsPlayedOf failed old new t limit board chance names (Err e)) same played)
@@ -87,10 +102,12 @@ no_memory (Err e) file memory = cc
 -- and nothing shown
 pub not_shown : (failed : Type 0) (old : Stage) (limit board : ℕ) (names : List (List ℕ)) (t : HostContents) (e : Refusal)
     → (e ≡ Memory) ⊎ Collects failed t names (Err e) → (e ≡ Memory) ⊎ ComesToShow failed old old t limit board names (Err e)
-not_shown failed old limit board names t e why = elim why [ inl memory ↦ inl memory | inr first ↦ inr (Err e, Err e, first, (refl, refl), refl) ]
+not_shown failed old limit board names t e why =
+    elim why [ inl memory ↦ inl memory | inr first ↦ inr (Err e, Err e, first, (refl, refl), refl) ]
 
 -- a board is shown, or not
-pub show_ends : (failed : Type 0) (old after : Stage) (limit : ℕ) (result : Result (Unit {0}) Refusal) (asked board : ℕ) (names : List (List ℕ)) (t : HostContents) (es : List Edit) (new : Option HostContents) → new ≡ Some t
+pub show_ends : (failed : Type 0) (old after : Stage) (limit : ℕ) (result : Result (Unit {0}) Refusal) (asked board : ℕ) (names : List (List ℕ)) (t : HostContents) (es : List Edit) (new : Option HostContents)
+    → new ≡ Some t
     → asked ≡ board → Collects failed t names (Ok es)
     → MatchResult result (λ _. ShowsOn old after limit (Ok es) asked (Ok tt)) (λ e. (e ≡ Memory) ⊎ ShowsOn old after limit (Ok es) asked (Err e))
     → Ends failed (ComesToShow failed old after t limit board names) t result new
@@ -136,7 +153,8 @@ played_result failed old new limit (Err e) t asked board chance bytes words name
 
 -- where the words couldn't be had
 pub not_read : (failed : Type 0) (old : Stage) (t : HostContents) (limit board : ℕ) (chance : List ℕ) (names : List (List ℕ)) (e : Refusal)
-    → (e ≡ Memory) ⊎ (e ≡ File) → (e ≡ File → IsRead failed t chance None) → ((e ≡ Memory) × (old ≡ old)) ⊎ IsPlayedOf failed old old t limit board chance names (Err e)
+    → (e ≡ Memory) ⊎ (e ≡ File) → (e ≡ File → IsRead failed t chance None)
+    → ((e ≡ Memory) × (old ≡ old)) ⊎ IsPlayedOf failed old old t limit board chance names (Err e)
 not_read failed old t limit board chance names e why none = elim why [
   | inl memory ↦ inl (memory, refl)
   | inr file ↦ inr (None, none file, (ap (λ x. Err x) file, refl))
@@ -144,6 +162,7 @@ not_read failed old t limit board chance names e why none = elim why [
 
 -- where the edits couldn't be had
 pub not_collected : (failed : Type 0) (old : Stage) (t : HostContents) (limit board : ℕ) (chance bytes : List ℕ) (names : List (List ℕ)) (e : Refusal)
-    → file_in t chance ≡ Some bytes → (e ≡ Memory) ⊎ Collects failed t names (Err e) → ((e ≡ Memory) × (old ≡ old)) ⊎ IsPlayedOf failed old old t limit board chance names (Err e)
+    → file_in t chance ≡ Some bytes → (e ≡ Memory) ⊎ Collects failed t names (Err e)
+    → ((e ≡ Memory) × (old ≡ old)) ⊎ IsPlayedOf failed old old t limit board chance names (Err e)
 not_collected failed old t limit board chance bytes names e held why =
     elim why [ inl memory ↦ inl (memory, refl) | inr first ↦ inr (Some bytes, inl (sym held), (Err e, first, (refl, refl))) ]

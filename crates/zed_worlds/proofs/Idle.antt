@@ -19,7 +19,8 @@ unbegun (Ok x) kept is = tt
 unbegun (Err e) kept is = inr is
 
 -- what `?` hands on of one
-pub of_playing : {X : Type 0} (answer : Result X Refusal) (e : Refusal) (kept : Type 0) → IsErrAnd answer (λ x. x ≡ e) → is_of_playing e ≡ true
+pub of_playing : {X : Type 0} (answer : Result X Refusal) (e : Refusal) (kept : Type 0) → IsErrAnd answer (λ x. x ≡ e)
+    → is_of_playing e ≡ true
     → IfErr answer (λ e. (is_of_playing e ≡ true) ⊎ kept)
 of_playing (Ok x) e kept told is = absurd told
 of_playing (Err x) e kept told is = inl (ap is_of_playing told ∙ is)
@@ -35,7 +36,8 @@ key_of_playing session.ScreenFault words old new keys left on plays = refl
 key_of_playing _ words old new keys left on plays = absurd plays
 
 -- what `?` hands on before anything is printed
-pub untold : {H X : Type 0} (called : H → Call → H → Type 0) (host : H) (answer : Result X Refusal) (e : Refusal) (kept : Type 0) → IsErrAnd answer (λ x. x ≡ e)
+pub untold : {H X : Type 0} (called : H → Call → H → Type 0) (host : H) (answer : Result X Refusal) (e : Refusal) (kept : Type 0)
+    → IsErrAnd answer (λ x. x ≡ e)
     → (is_of_playing e ≡ true) ⊎ kept → IfErr answer (λ e. IsOfPlay called e host ⊎ kept)
 untold called host (Ok x) e kept told why = absurd told
 untold called host (Err x) e kept told why = elim why [ inl played ↦ inl (inl (ap is_of_playing told ∙ played)) | inr stays ↦ inr stays ]
@@ -45,11 +47,14 @@ no_more [] ask rest is = let no : [] ≡ ask ∷ rest = is in cc
 no_more (x ∷ front) ask rest is = let no : [] ≡ x ∷ (front ++ ask ∷ rest) = is in cc
 
 -- the call that failed was to print, where that was all that was asked for
-print_lost : {H : Type 0} (called : H → Call → H → Type 0) (calls : List Call) (old new : H) → Leads called calls old new → BrokenOff (Printing ∷ []) calls
+print_lost : {H : Type 0} (called : H → Call → H → Type 0) (calls : List Call) (old new : H) → Leads called calls old new
+    → BrokenOff (Printing ∷ []) calls
     → (before : H) × called before (call Printing true) new
-print_lost {H = H} called calls old new leads (front, ask, rest, asks, is) = go front asks (subst (λ calls. Leads called calls old new) is leads)
+print_lost {H = H} called calls old new leads (front, ask, rest, asks, is) =
+    go front asks (subst (λ calls. Leads called calls old new) is leads)
   where
-    go : (front : List Ask) → Printing ∷ [] ≡ front ++ ask ∷ rest → Leads called (failed_at front ask) old new → (before : H) × called before (call Printing true) new
+    go : (front : List Ask) → Printing ∷ [] ≡ front ++ ask ∷ rest → Leads called (failed_at front ask) old new
+        → (before : H) × called before (call Printing true) new
     go [] same (mid, first, last) =
         let printing : ask ≡ Printing = (let s : Printing ∷ [] ≡ ask ∷ rest = same in cc) in
         (old, subst (λ a. called old (call a true) new) printing (subst (λ m. called old (call ask true) m) (sym last) first))
@@ -58,7 +63,8 @@ print_lost {H = H} called calls old new leads (front, ask, rest, asks, is) = go 
         absurd (no_more front ask rest none)
 
 -- what is told of a playtest couldn't be printed
-pub unprinted : {H X : Type 0} (called : H → Call → H → Type 0) (old new : H) (answer : Result X Refusal) (kept : Type 0) → IfErr answer (λ e. e ≡ File)
+pub unprinted : {H X : Type 0} (called : H → Call → H → Type 0) (old new : H) (answer : Result X Refusal) (kept : Type 0)
+    → IfErr answer (λ e. e ≡ File)
     → Asks called [] (Printing ∷ []) (refusal_in answer) old new → IfErr answer (λ e. IsOfPlay called e new ⊎ kept)
 unprinted called old new (Ok x) kept file asks = tt
 unprinted called old new (Err e) kept file (calls, leads, how) = elim how [

@@ -33,7 +33,8 @@ exported_off Report limit es e made = over_off (refusal_of limit (replay es)) _ 
 
 -- a command tells a fault of a screen or of a source of keys where a session does
 session_tells : (X : Type 0) (e : SessionError)
-    → (told.is_screen_fault {X = X} (Err e) ≡ is_of_screen (session_refusal e)) × (told.is_key_fault {X = X} (Err e) ≡ is_of_keys (session_refusal e))
+    → (told.is_screen_fault {X = X} (Err e) ≡ is_of_screen (session_refusal e))
+    × (told.is_key_fault {X = X} (Err e) ≡ is_of_keys (session_refusal e))
 session_tells X session.Memory = (refl, refl)
 session_tells X session.Magic = (refl, refl)
 session_tells X session.NewVersion = (refl, refl)
@@ -57,7 +58,8 @@ session_tells X session.TooManyTurns = (refl, refl)
 session_tells X session.NoLink = (refl, refl)
 
 -- what `?` hands on of a session tells of the screen as that does, and the calls before it didn't fail
-pub screen_on : {X : Type 0} (Y : Type 0) (answer : Result X Refusal) (e : SessionError) (old middle new : ℕ) → IsErrAnd answer (λ x. x ≡ session_refusal e)
+pub screen_on : {X : Type 0} (Y : Type 0) (answer : Result X Refusal) (e : SessionError) (old middle new : ℕ)
+    → IsErrAnd answer (λ x. x ≡ session_refusal e)
     → middle ≡ old → Counts (told.is_screen_fault {X = Y} (Err e)) middle new → Counts (is_screen_fault answer) old new
 screen_on Y (Ok x) e old middle new is before counts = absurd is
 screen_on Y (Err x) e old middle new is before counts =
@@ -65,7 +67,8 @@ screen_on Y (Err x) e old middle new is before counts =
     subst (λ n. Counts (is_of_screen x) n new) before (subst (λ b. Counts b middle new) same counts)
 
 -- and of the source of keys
-pub keys_on : {X : Type 0} (Y : Type 0) (answer : Result X Refusal) (e : SessionError) (old middle new : ℕ) → IsErrAnd answer (λ x. x ≡ session_refusal e)
+pub keys_on : {X : Type 0} (Y : Type 0) (answer : Result X Refusal) (e : SessionError) (old middle new : ℕ)
+    → IsErrAnd answer (λ x. x ≡ session_refusal e)
     → middle ≡ old → Counts (told.is_key_fault {X = Y} (Err e)) middle new → Counts (is_key_fault answer) old new
 keys_on Y (Ok x) e old middle new is before counts = absurd is
 keys_on Y (Err x) e old middle new is before counts =
@@ -83,12 +86,17 @@ pub keys_told : {X : Type 0} (answer : Result X Refusal) (e : Refusal) (old new 
 keys_told (Ok x) e old new is counts = absurd is
 keys_told (Err x) e old new is counts = subst (λ r. Counts (is_of_keys r) old new) (sym is) counts
 
-unbegun_board : (header : Header) (board : Option BoardData) (new : Playing) (e : SessionError) → InSession {X = Unit {0}} header board (Starts new) (Err e) → IsOffStage (session_refusal e)
-unbegun_board header (Some board) new e is = is_off (session_refusal e) (session_refusal session.Memory) (ap session_refusal is) (refl, refl)
+unbegun_board : (header : Header) (board : Option BoardData) (new : Playing) (e : SessionError)
+    → InSession {X = Unit {0}} header board (Starts new) (Err e)
+    → IsOffStage (session_refusal e)
+unbegun_board header (Some board) new e is =
+    is_off (session_refusal e) (session_refusal session.Memory) (ap session_refusal is) (refl, refl)
 unbegun_board header None new e is = is_off (session_refusal e) (session_refusal session.NoBoard) (let same : e ≡ session.NoBoard = cc in ap session_refusal same) (refl, refl)
 
 -- a playtest that didn't begin
-pub unbegun_off : (world : Result Contents ExportError) (n : ℕ) (new : Playing) (e : SessionError) → Answers {X = Unit {0}} world n (Starts new) (Err e) → IsOffStage (session_refusal e)
+pub unbegun_off : (world : Result Contents ExportError) (n : ℕ) (new : Playing) (e : SessionError)
+    → Answers {X = Unit {0}} world n (Starts new) (Err e)
+    → IsOffStage (session_refusal e)
 unbegun_off (Ok w) n new e is = unbegun_board w.header (slice_get w.boards n) new e is
 unbegun_off (Err x) n new e is =
     is_off (session_refusal e) (session_refusal (told.export_refusal x)) (let same : e ≡ told.export_refusal x = cc in ap session_refusal same) (export_off x)
@@ -106,12 +114,14 @@ unshown_board header (Some board) old new e is = elim is [
 unshown_board header None old new e is = not_of_keys e session.NoBoard (cc) refl
 
 -- a board that wasn't shown
-pub unshown_off : (world : Result Contents ExportError) (n : ℕ) (old new : Option (Option Frame)) (e : SessionError) → Answers {X = Unit {0}} world n (ShowsBoard old new) (Err e)
+pub unshown_off : (world : Result Contents ExportError) (n : ℕ) (old new : Option (Option Frame)) (e : SessionError)
+    → Answers {X = Unit {0}} world n (ShowsBoard old new) (Err e)
     → is_of_keys (session_refusal e) ≡ false
 unshown_off (Ok w) n old new e is = unshown_board w.header (slice_get w.boards n) old new e is
 unshown_off (Err x) n old new e is = not_of_keys e (told.export_refusal x) (cc) (export_off x).1
 
 -- what `?` hands on isn't of a source of keys
-pub keys_off_on : {X : Type 0} (answer : Result X Refusal) (e : Refusal) → IsErrAnd answer (λ x. x ≡ e) → is_of_keys e ≡ false → is_key_fault answer ≡ false
+pub keys_off_on : {X : Type 0} (answer : Result X Refusal) (e : Refusal) → IsErrAnd answer (λ x. x ≡ e) → is_of_keys e ≡ false
+    → is_key_fault answer ≡ false
 keys_off_on (Ok x) e is off = absurd is
 keys_off_on (Err x) e is off = ap is_of_keys is ∙ off

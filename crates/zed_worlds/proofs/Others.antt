@@ -38,12 +38,16 @@ board_is_other Idle (Ok w) n Does e other of is = go (slice_get w.boards n) of
     go None bad = let no = bad.0 in cc
     go (Some board) does = other w.header board does is
 
-pub shown_is_other : (limit : ℕ) (es : List Edit) (n : ℕ) (old new : Stage) (e : Refusal) → ShowsOn old new limit (Ok es) n (Err e) → e ≡ File → ⊥
+pub shown_is_other : (limit : ℕ) (es : List Edit) (n : ℕ) (old new : Stage) (e : Refusal) → ShowsOn old new limit (Ok es) n (Err e)
+    → e ≡ File
+    → ⊥
 shown_is_other limit es n old new e of is =
     board_is_other (new ≡ old) (exported limit (replay es)) n (IsShown old new) e
     (λ header board shown file. elim shown [ inl ok ↦ (let no = ok.0 in cc) | inr fault ↦ (let no = fault.0 in cc) ]) of is
 
-pub played_is_other : (limit : ℕ) (es : List Edit) (n : ℕ) (old new : Stage) (words : List ℕ) (e : Refusal) → PlaysOn old new limit (Ok es) n words (Err e) → e ≡ File → ⊥
+pub played_is_other : (limit : ℕ) (es : List Edit) (n : ℕ) (old new : Stage) (words : List ℕ) (e : Refusal)
+    → PlaysOn old new limit (Ok es) n words (Err e) → e ≡ File
+    → ⊥
 played_is_other limit es n old new words e of is =
     board_is_other (new ≡ old) (exported limit (replay es)) n (IsPlayed old new words) e (λ header board plays file. ends plays.0 plays.1 plays.4) of is
   where
@@ -63,7 +67,8 @@ played_is_other limit es n old new words e of is =
     ]
 
 -- a refusal of memory, whatever else is so then
-pub or_memory : {X : Type 0} (P : X → Type 0) (So : Type 0) (Q : Refusal → Type 0) (answer : Result X Refusal) → MatchResult answer P (λ e. ((e ≡ Memory) × So) ⊎ Q e)
+pub or_memory : {X : Type 0} (P : X → Type 0) (So : Type 0) (Q : Refusal → Type 0) (answer : Result X Refusal)
+    → MatchResult answer P (λ e. ((e ≡ Memory) × So) ⊎ Q e)
     → MatchResult answer P (λ e. (e ≡ Memory) ⊎ Q e)
 or_memory P So Q (Ok x) is = is
 or_memory P So Q (Err e) why = elim why [ inl memory ↦ inl memory.0 | inr other ↦ inr other ]

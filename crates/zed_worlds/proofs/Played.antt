@@ -44,7 +44,8 @@ BeginsOr d words new Comes answer =
     MatchResult answer (λ _. Begins d words new Comes) (λ e. (session_refusal e ≡ Memory) ⊎ Comes d (Err (session_refusal e)))
 
 on_board : (d : Stage) (header : Header) (board : Option BoardData) (words : List ℕ) (new : Playing) (answer : Result (Unit {0}) SessionError)
-    → InSession header board (Starts new) answer → BeginsOr d words new (λ last. OfBoard (last ≡ d) header board (IsPlayed d last words)) answer
+    → InSession header board (Starts new) answer
+    → BeginsOr d words new (λ last. OfBoard (last ≡ d) header board (IsPlayed d last words)) answer
 on_board d header (Some board) words new (Ok u) is = (play_of header board 1, is, refl, λ last r plays. plays)
 on_board d header (Some board) words new (Err e) is = inl (ap session_refusal is)
 on_board d header None words new (Ok u) is = absurd (cc)
@@ -59,7 +60,8 @@ in_world d (Err e) n words new (Err x) is =
 
 -- a playtest is started on the world of a set of edits, or the command is refused
 pub play_begins : (d : Stage) (limit : ℕ) (es : List Edit) (n : ℕ) (words : List ℕ) (new : Playing) (answer : Result (Unit {0}) SessionError)
-    → Answers (exported limit (replay es)) n (Starts new) answer → BeginsOr d words new (λ last. PlaysOn d last limit (Ok es) n words) answer
+    → Answers (exported limit (replay es)) n (Starts new) answer
+    → BeginsOr d words new (λ last. PlaysOn d last limit (Ok es) n words) answer
 play_begins d limit es n words new answer is = in_world d (exported limit (replay es)) n words new answer is
 
 -- ---- how a board is not shown
@@ -73,7 +75,8 @@ abbrev pub HidesOn : Stage → Stage → SessionError → Type 0
 HidesOn old new e = (e ≡ session.ScreenFault) ⊎ (new ≡ old)
 
 hidden_board : (old new : Stage) (header : Header) (board : Option BoardData) (e : SessionError)
-    → InSession {X = Unit {0}} header board (ShowsBoard old.shown new.shown) (Err e) → HidesOn old new e → (e ≡ session.ScreenFault → Foretold true old.screen new.screen)
+    → InSession {X = Unit {0}} header board (ShowsBoard old.shown new.shown) (Err e) → HidesOn old new e
+    → (e ≡ session.ScreenFault → Foretold true old.screen new.screen)
     → RefusedOr (OfBoard (new ≡ old) header board (IsShown old new)) e
 hidden_board old new header (Some board) e is hides failed = elim is [
   | inl lack ↦ inl (ap session_refusal lack)
@@ -92,7 +95,8 @@ limit_is_no_fault (export.StatsOver b n) is = cc
 limit_is_no_fault (export.BoardOver b n) is = cc
 
 hidden_world : (old new : Stage) (world : Result Contents ExportError) (n : ℕ) (e : SessionError)
-    → Answers {X = Unit {0}} world n (ShowsBoard old.shown new.shown) (Err e) → HidesOn old new e → (e ≡ session.ScreenFault → Foretold true old.screen new.screen)
+    → Answers {X = Unit {0}} world n (ShowsBoard old.shown new.shown) (Err e) → HidesOn old new e
+    → (e ≡ session.ScreenFault → Foretold true old.screen new.screen)
     → RefusedOr (OfWorld (new ≡ old) world n (IsShown old new)) e
 hidden_world old new (Ok w) n e is hides failed = hidden_board old new w.header (slice_get w.boards n) e is hides failed
 hidden_world old new (Err x) n e is hides failed =
@@ -106,24 +110,28 @@ screen_failed e before after shows fault = rw fault at shows
 
 -- a board of the world of a set of edits couldn't be shown
 pub not_on_screen : (old new : Stage) (limit : ℕ) (es : List Edit) (n : ℕ) (e : SessionError)
-    → Answers {X = Unit {0}} (exported limit (replay es)) n (ShowsBoard old.shown new.shown) (Err e) → ShowsOnce {X = Unit {0}} (Err e) old.screen new.screen
+    → Answers {X = Unit {0}} (exported limit (replay es)) n (ShowsBoard old.shown new.shown) (Err e)
+    → ShowsOnce {X = Unit {0}} (Err e) old.screen new.screen
     → HidesOn old new e → RefusedOr (ShowsOn old new limit (Ok es) n) e
 not_on_screen old new limit es n e is shows hides =
     hidden_world old new (exported limit (replay es)) n e is hides (screen_failed e old.screen new.screen shows)
 
 -- a board of the world of a set of edits was shown
 board_on : (old new : Stage) (header : Header) (board : Option BoardData) (u : Unit {0})
-    → InSession {X = Unit {0}} header board (ShowsBoard old.shown new.shown) (Ok u) → Foretold false old.screen new.screen → OfBoard (new ≡ old) header board (IsShown old new) (Ok tt)
+    → InSession {X = Unit {0}} header board (ShowsBoard old.shown new.shown) (Ok u) → Foretold false old.screen new.screen
+    → OfBoard (new ≡ old) header board (IsShown old new) (Ok tt)
 board_on old new header (Some board) u is passed = inl (refl, passed, (is.0, is.1.0, is.1.1))
 board_on old new header None u is passed = absurd (cc)
 
 world_on : (old new : Stage) (world : Result Contents ExportError) (n : ℕ) (u : Unit {0})
-    → Answers {X = Unit {0}} world n (ShowsBoard old.shown new.shown) (Ok u) → Foretold false old.screen new.screen → OfWorld (new ≡ old) world n (IsShown old new) (Ok tt)
+    → Answers {X = Unit {0}} world n (ShowsBoard old.shown new.shown) (Ok u) → Foretold false old.screen new.screen
+    → OfWorld (new ≡ old) world n (IsShown old new) (Ok tt)
 world_on old new (Ok w) n u is passed = board_on old new w.header (slice_get w.boards n) u is passed
 world_on old new (Err x) n u is passed = absurd (cc)
 
 pub on_screen : (old new : Stage) (limit : ℕ) (es : List Edit) (n : ℕ) (u : Unit {0})
-    → Answers {X = Unit {0}} (exported limit (replay es)) n (ShowsBoard old.shown new.shown) (Ok u) → ShowsOnce {X = Unit {0}} (Ok u) old.screen new.screen
+    → Answers {X = Unit {0}} (exported limit (replay es)) n (ShowsBoard old.shown new.shown) (Ok u)
+    → ShowsOnce {X = Unit {0}} (Ok u) old.screen new.screen
     → ShowsOn old new limit (Ok es) n (Ok tt)
 on_screen old new limit es n u is shows = world_on old new (exported limit (replay es)) n u is shows
 
@@ -156,7 +164,8 @@ is_on o p is going = rw (is, going) refl
 
 -- a key is asked for
 asked : (failing : Bool) (old : Playing) (s e : Stage) (c : Course) → IsAt c old s
-    → c.play.ending ≡ None → (goes_on old.playtest ≡ true → AsksOnce old.kept failing s.source e.source) → Foretold failing s.source e.source
+    → c.play.ending ≡ None → (goes_on old.playtest ≡ true → AsksOnce old.kept failing s.source e.source)
+    → Foretold failing s.source e.source
 asked failing old s e c at going asks =
     subst (λ k. AsksOnce k failing s.source e.source) (kept_none old c.play at.0) (asks (is_on old.playtest c.play (ap (λ (o : Playing). o.playtest) at.0) going))
 
@@ -191,7 +200,8 @@ key_steps used words old new s e c at same going plays asks once shows =
 
 -- no key was left
 pub no_key : (n : ℕ) (words : List ℕ) (old new : Playing) (s e : Stage) (c : Course) → IsAt c old s
-    → c.play.ending ≡ None → PlaysKey (Ok None) words old s.keys new e.keys → (goes_on old.playtest ≡ true → AsksOnce old.kept false s.source e.source)
+    → c.play.ending ≡ None → PlaysKey (Ok None) words old s.keys new e.keys
+    → (goes_on old.playtest ≡ true → AsksOnce old.kept false s.source e.source)
     → ShowsOnStage (Ok None) s.screen e.screen → ShowsKey (Ok None) new.playtest s.shown e.shown
     → n < most_keys → (new.playtest ≡ Some c.play) × IsOver n c e
 no_key n words old new s e c at going plays asks once shows few =
@@ -218,13 +228,15 @@ unshown answer words old new s e c at same uses asks shows =
     let is : p ≡ c.play = same_play p c.play old.playtest step.2 (ap (λ (o : Playing). o.playtest) at.0) in
     let by_words : Steps answer key c.play words q = subst (λ x. Steps answer key x words q) is step.4 in
     let made : Steps answer key c.play c.words q = subst (λ ws. Steps answer key c.play ws q) same by_words in
-    let calls : TakesKey (Some key) c.stage e × ShowsNothing c.stage e = subst (λ x. TakesKey (Some key) x e × ShowsNothing x e) at.1 ((takes, asks), shows) in
+    let calls : TakesKey (Some key) c.stage e × ShowsNothing c.stage e =
+    subst (λ x. TakesKey (Some key) x e × ShowsNothing x e) at.1 ((takes, asks), shows) in
     (key, q, calls.0, calls.1, made)
 
 -- a refused key ends the play
 pub key_refused : (why : SessionError) (n : ℕ) (words : List ℕ) (old new : Playing) (s e : Stage) (c : Course)
     → IsAt c old s → words ≡ c.words → c.play.ending ≡ None → PlaysKey (Err why) words old s.keys new e.keys
-    → (goes_on old.playtest ≡ true → AsksOnce old.kept (is_key_fault {X = Option ℕ} (Err why)) s.source e.source) → ShowsOnStage (Err why) s.screen e.screen
+    → (goes_on old.playtest ≡ true → AsksOnce old.kept (is_key_fault {X = Option ℕ} (Err why)) s.source e.source)
+    → ShowsOnStage (Err why) s.screen e.screen
     → ShowsKey (Err why) new.playtest s.shown e.shown
     → n < most_keys → EndsPlay n c e (Err (session_refusal why))
 key_refused session.Over n words old new s e c at same going plays asks once shows few =
@@ -246,13 +258,16 @@ key_refused session.ScreenFault n words old new s e c at same going plays asks o
 key_refused _ n words old new s e c at same going plays asks once shows few = absurd plays
 
 -- the playtest that is lent is the one that was started
-pub lent_is : {X : Type 0} (now : X → Playtest) (play : X) (o : Option X) (started : Option Playtest) (q : Playtest) → option_map now o ≡ started → o ≡ Some play
+pub lent_is : {X : Type 0} (now : X → Playtest) (play : X) (o : Option X) (started : Option Playtest) (q : Playtest)
+    → option_map now o ≡ started → o ≡ Some play
     → started ≡ Some q → now play ≡ q
 lent_is now play o started q lent is at = let both : Some (now play) ≡ Some q = rw is at lent ∙ at in cc
 
 -- a playtest is there, whatever a key came to
 pub still_lent : {X : Type 0} (now : X → Playtest) (o : Option X) (used : Option ℕ) (words : List ℕ) (old new : Playing) (keys left : Option (List Key)) (p : Playtest)
-    → old ≡ record { playtest = Some p; kept = None } → PlaysKey (Ok used) words old keys new left → option_map now o ≡ new.playtest → o ≡ None → ⊥
+    → old ≡ record { playtest = Some p; kept = None } → PlaysKey (Ok used) words old keys new left → option_map now o ≡ new.playtest
+    → o ≡ None
+    → ⊥
 still_lent now o (Some used) words old new keys left p at plays lent none =
     let step = plays.2 in
     let bad : None ≡ Some step.1 = sym (ap (option_map now) none) ∙ lent ∙ step.3 in

@@ -11,9 +11,13 @@ use Rattle.zed_export.specs.World.{exported_boards, world_of}
 use Rattle.zed_export.proofs.Within.{boards_within, none_over}
 
 -- a world that goes over no limit has a text within it
-within : (limit : ℕ) (p : Plain) (w : Contents) (o : Option ExportError) → refusal_of limit p ≡ o → Answers {X = Contents} (λ x. x) (over o (world_of p)) (Ok w) → HasText limit w
+within : (limit : ℕ) (p : Plain) (w : Contents) (o : Option ExportError) → refusal_of limit p ≡ o
+    → Answers {X = Contents} (λ x. x) (over o (world_of p)) (Ok w)
+    → HasText limit w
 within limit p w None none is = rw (is) (none_over limit 0 (exported_boards p) (boards_within limit p none))
 within limit p w (Some e) some is = absurd (cc)
 
-pub has_text : (limit : ℕ) (d : Replica) (w : Contents) → d.is_stale ≡ false → Answers {X = Contents} (λ x. x) (unless_stale d (exported limit)) (Ok w) → HasText limit w
+pub has_text : (limit : ℕ) (d : Replica) (w : Contents) → d.is_stale ≡ false
+    → Answers {X = Contents} (λ x. x) (unless_stale d (exported limit)) (Ok w)
+    → HasText limit w
 has_text limit d w sound is = within limit (replay d.edits) w (refusal_of limit (replay d.edits)) refl (rw sound at is)

@@ -14,7 +14,9 @@ loop-i-preserved c =
     let bs = c.loop-i.blocks.items in
     let l : c.loop-i.i < length bs = search rules in
     record {
-      same = lists-kept bs c.loop-i.i c.index_mut.result.now c.reserve.new.block l c.index_mut.ensures.value c.reserve.ensures.kept ∙ c.loop-i.invariant.same;
+      same =
+          lists-kept bs c.loop-i.i c.index_mut.result.now c.reserve.new.block l c.index_mut.ensures.value c.reserve.ensures.kept
+          ∙ c.loop-i.invariant.same;
       most = omega (arith, l, length-set bs c.loop-i.i c.reserve.new.block);
       room = room-next bs c.loop-i.i c.args.first c.reserve.new.block (search rules) l c.loop-i.invariant.room c.in_ok-reserve.ensures.room;
     }

@@ -11,11 +11,13 @@ use Rattle.zed_code.proofs.Halves.{same-kept, split-same, split-moved}
 use Rattle.zed_code.proofs.blocks.split.Goals as goal
 
 pub returns-in_err-reserve-clause-same : goal.returns-in_err-reserve-clause-same
-returns-in_err-reserve-clause-same c = same-kept (lists c.args.blocks.now.items) c.args.places.now.items c.reserve.new.self.items c.reserve.ensures.items
+returns-in_err-reserve-clause-same c =
+    same-kept (lists c.args.blocks.now.items) c.args.places.now.items c.reserve.new.self.items c.reserve.ensures.items
 
 pub returns-in_err-reserve-2-clause-same : goal.returns-in_err-reserve-2-clause-same
 returns-in_err-reserve-2-clause-same c =
-    let P : List (List Run) → Type 0 = λ ls. IsSameText (lists c.args.blocks.now.items) ls c.args.places.now.items c.reserve.new.self.items in
+    let P : List (List Run) → Type 0 =
+    λ ls. IsSameText (lists c.args.blocks.now.items) ls c.args.places.now.items c.reserve.new.self.items in
     subst P (sym (ap lists c.reserve-2.ensures.items)) (same-kept (lists c.args.blocks.now.items) c.args.places.now.items c.reserve.new.self.items c.reserve.ensures.items)
 
 pub halve-requires : goal.halve-requires
@@ -24,7 +26,8 @@ halve-requires c =
     let n = length-lists c.args.blocks.now.items in
     let m = ap length k in
     let is : list_at c.args.at.block (lists c.reserve-2.new.self.items) ≡ c.index_mut.result.now.runs.items = list_at-is c.reserve-2.new.self.items c.args.at.block c.index_mut.result.now (omega (arith, n, m, c.requires.within.block)) c.index_mut.ensures.value in
-    let same : list_at c.args.at.block (lists c.args.blocks.now.items) ≡ c.index_mut.result.now.runs.items = ap (λ bs. list_at c.args.at.block (lists bs)) (sym k) ∙ is in
+    let same : list_at c.args.at.block (lists c.args.blocks.now.items) ≡ c.index_mut.result.now.runs.items =
+    ap (λ bs. list_at c.args.at.block (lists bs)) (sym k) ∙ is in
     omega (arith, ap length same, c.requires.long)
 
 pub returns-in_err-behind-clause-same : goal.returns-in_err-behind-clause-same
@@ -34,7 +37,8 @@ returns-in_err-behind-clause-same c =
     let m = ap length k in
     let l : c.args.at.block < length c.reserve-2.new.self.items = omega (arith, n, m, c.requires.within.block) in
     let same = lists-kept c.reserve-2.new.self.items c.args.at.block c.index_mut.result.now c.halve.new.block l c.index_mut.ensures.value c.in_err-behind.ensures.err ∙ ap lists k in
-    let P : List (List Run) → Type 0 = λ ls. IsSameText (lists c.args.blocks.now.items) ls c.args.places.now.items c.reserve.new.self.items in
+    let P : List (List Run) → Type 0 =
+    λ ls. IsSameText (lists c.args.blocks.now.items) ls c.args.places.now.items c.reserve.new.self.items in
     subst P (sym same) (same-kept (lists c.args.blocks.now.items) c.args.places.now.items c.reserve.new.self.items c.reserve.ensures.items)
 
 pub returns-clause-same : goal.returns-clause-same

@@ -28,14 +28,16 @@ loop-i-init c =
 pub cut_at-i-requires-clause-room : goal.cut_at-i-requires-clause-room
 cut_at-i-requires-clause-room c =
     let n : length c.loop-i.runs.items ≡ vec_len c.loop-i.runs = search rules in
-    let t : drop c.loop-i.i c.loop-i.runs.items ≡ c.look-run.result ∷ drop (c.loop-i.i + 1) c.loop-i.runs.items = rw (← c.deref.ensures.value) c.look-run.ensures.run in
+    let t : drop c.loop-i.i c.loop-i.runs.items ≡ c.look-run.result ∷ drop (c.loop-i.i + 1) c.loop-i.runs.items =
+    rw (← c.deref.ensures.value) c.look-run.ensures.run in
     let l : c.loop-i.i < length c.loop-i.runs.items = omega (arith, n, c.loop-i-test.true, c.len.ensures) in
     omega (arith, n, room-here c.args.range c.loop-i.runs.items c.look-run.result c.loop-i.i (vec_capacity c.loop-i.runs) l t c.loop-i.invariant.room)
 
 pub loop-i-preserved : goal.loop-i-preserved
 loop-i-preserved c =
     let n : length c.loop-i.runs.items ≡ vec_len c.loop-i.runs = search rules in
-    let t : drop c.loop-i.i c.loop-i.runs.items ≡ c.look-run.result ∷ drop (c.loop-i.i + 1) c.loop-i.runs.items = rw (← c.deref.ensures.value) c.look-run.ensures.run in
+    let t : drop c.loop-i.i c.loop-i.runs.items ≡ c.look-run.result ∷ drop (c.loop-i.i + 1) c.loop-i.runs.items =
+    rw (← c.deref.ensures.value) c.look-run.ensures.run in
     let l : c.loop-i.i < length c.loop-i.runs.items = omega (arith, n, c.loop-i-test.true, c.len.ensures) in
     let k : length c.cut_at-i.new.runs.items ≡ vec_len c.cut_at-i.new.runs = search rules in
     let s = next c.args.range c.loop-i.runs.items c.cut_at-i.new.runs.items c.look-run.result c.loop-i.i l t c.cut_at-i.ensures.runs in
@@ -47,7 +49,10 @@ loop-i-preserved c =
       sound = rw s.behind (rw t at c.loop-i.invariant.sound).1;
       ordered = rw s.behind (rw t at c.loop-i.invariant.ordered).1;
       left = omega (arith, n, k, s.longer, c.loop-i.invariant.left);
-      looked = c.look-run.ensures.visits ∙ ap (λ v. raised v 1) c.loop-i.invariant.looked ∙ raised-twice c.args.visits.now (vec_len c.args.runs.now - c.args.start - (vec_len c.loop-i.runs - c.loop-i.i)) 1 ∙ ap (raised c.args.visits.now) (omega (arith, n, k, s.longer, l, c.loop-i.invariant.left));
+      looked =
+          c.look-run.ensures.visits ∙ ap (λ v. raised v 1) c.loop-i.invariant.looked
+          ∙ raised-twice c.args.visits.now (vec_len c.args.runs.now - c.args.start - (vec_len c.loop-i.runs - c.loop-i.i)) 1
+          ∙ ap (raised c.args.visits.now) (omega (arith, n, k, s.longer, l, c.loop-i.invariant.left));
       seen =
           let here : touched c.args.range (drop c.loop-i.i c.loop-i.runs.items) ≤ 1 + touched c.args.range (drop (c.loop-i.i + 1) c.loop-i.runs.items) = rw t (touched-one c.args.range c.look-run.result (drop (c.loop-i.i + 1) c.loop-i.runs.items)) in
           omega (arith, here, ap (touched c.args.range) s.behind, c.look-run.ensures.visits, c.loop-i.invariant.seen);
@@ -76,7 +81,8 @@ pub returns-then-reaches-clause-visits : goal.returns-then-reaches-clause-visits
 returns-then-reaches-clause-visits c =
     let n : length c.args.runs.now.items ≡ vec_len c.args.runs.now = search rules in
     let k = vec_len c.args.runs.now - c.args.start - (vec_len c.loop-i.runs - c.loop-i.i) in
-    let looked : c.look-run.new.visits ≡ raised c.args.visits.now (k + 1) = c.look-run.ensures.visits ∙ ap (λ v. raised v 1) c.loop-i.invariant.looked ∙ raised-twice c.args.visits.now k 1 in
+    let looked : c.look-run.new.visits ≡ raised c.args.visits.now (k + 1) =
+    c.look-run.ensures.visits ∙ ap (λ v. raised v 1) c.loop-i.invariant.looked ∙ raised-twice c.args.visits.now k 1 in
     (k + 1, looked, omega (arith, n, c.requires.within, c.loop-i.invariant.left, c.loop-i-test.true, c.len.ensures))
 
 pub returns-then-reaches-clause-looks : goal.returns-then-reaches-clause-looks
@@ -85,7 +91,8 @@ returns-then-reaches-clause-looks c =
     let t : drop c.loop-i.i rs ≡ c.look-run.result ∷ drop (c.loop-i.i + 1) rs = rw (← c.deref.ensures.value) c.look-run.ensures.run in
     let reached : reaches c.args.range c.look-run.result ≡ true = sym c.reaches.ensures ∙ c.if-reaches.true in
     let ordered : AllInOrder (c.look-run.result ∷ drop (c.loop-i.i + 1) rs) = rw t at c.loop-i.invariant.ordered in
-    let here : touched c.args.range (drop c.loop-i.i rs) ≤ 1 + touched c.args.range (drop (c.loop-i.i + 1) rs) = rw t (touched-one c.args.range c.look-run.result (drop (c.loop-i.i + 1) rs)) in
+    let here : touched c.args.range (drop c.loop-i.i rs) ≤ 1 + touched c.args.range (drop (c.loop-i.i + 1) rs) =
+    rw t (touched-one c.args.range c.look-run.result (drop (c.loop-i.i + 1) rs)) in
     omega (arith, here, touched-done c.args.range c.look-run.result (drop (c.loop-i.i + 1) rs) reached ordered.0, c.look-run.ensures.visits, c.loop-i.invariant.seen)
 
 pub returns-clause-looks : goal.returns-clause-looks

@@ -16,7 +16,8 @@ use Rattle.zed_code.proofs.Touched.{touched-empty, touched-nowhere}
 use Rattle.zed_code.proofs.cut.mark_dead.Goals as goal
 
 pub seek-requires-clause-found : goal.seek-requires-clause-found
-seek-requires-clause-found c = found-of c.args.found c.args.blocks.now.items c.deref-2.result.now (sym c.deref-2.ensures.value) c.requires.found
+seek-requires-clause-found c =
+    found-of c.args.found c.args.blocks.now.items c.deref-2.result.now (sym c.deref-2.ensures.value) c.requires.found
 
 pub seek-requires-clause-hints : goal.seek-requires-clause-hints
 seek-requires-clause-hints c = hints-of c.args.hints.now.entries c.args.places.now.items c.deref-3.result.now c.args.blocks.now.items c.deref-2.result.now (sym c.deref-3.ensures.value) (sym c.deref-2.ensures.value) c.requires.hints
@@ -32,7 +33,9 @@ returns-then-at-len-clause-ok c =
     let ls = lists c.args.blocks.now.items in
     let place = place-of c.in_ok-at.at c.new-first.result (byte_of c.args.range.stamp c.args.range.first) c.deref-2.result.now c.args.blocks.now.items c.new-first.ensures c.deref-2.ensures.value c.in_ok-at.ensures.place in
     let far : length c.deref-2.result.now ≤ c.in_ok-at.at.block = let n = ap length c.deref-2.ensures.value in search rules in
-    let end : before_spot c.in_ok-at.at ls ≡ length (joined ls) = ap (λ bs. before_spot c.in_ok-at.at (lists bs)) (sym c.deref-2.ensures.value) ∙ c.in_ok-at.ensures.end far ∙ ap (λ bs. length (joined (lists bs))) c.deref-2.ensures.value in
+    let end : before_spot c.in_ok-at.at ls ≡ length (joined ls) =
+    ap (λ bs. before_spot c.in_ok-at.at (lists bs)) (sym c.deref-2.ensures.value) ∙ c.in_ok-at.ensures.end far
+    ∙ ap (λ bs. length (joined (lists bs))) c.deref-2.ensures.value in
     kills-none c.args.range (joined ls) (before_spot c.in_ok-at.at ls) place end
 
 pub returns-in_err-at-2-clause-hints : goal.returns-in_err-at-2-clause-hints
@@ -59,7 +62,8 @@ cut-requires-clause-none c =
     let ls = lists c.args.blocks.now.items in
     let place = place-of c.in_ok-at.at c.new-first.result (byte_of c.args.range.stamp c.args.range.first) c.deref-2.result.now c.args.blocks.now.items c.new-first.ensures c.deref-2.ensures.value c.in_ok-at.ensures.place in
     let to = c.in_ok-at-2.at in
-    let here : before_spot to (lists c.reserve_from.new.blocks.items) ≡ before_spot c.in_ok-at.at ls = ap (before_spot to) c.reserve_from.ensures.kept ∙ c.in_ok-at-2.ensures.ok.place in
+    let here : before_spot to (lists c.reserve_from.new.blocks.items) ≡ before_spot c.in_ok-at.at ls =
+    ap (before_spot to) c.reserve_from.ensures.kept ∙ c.in_ok-at-2.ensures.ok.place in
     none-before c.args.range (joined ls) (joined (lists c.reserve_from.new.blocks.items)) (before_spot c.in_ok-at.at ls) (before_spot to (lists c.reserve_from.new.blocks.items)) place here (ap joined c.reserve_from.ensures.kept ∙ c.split_full.ensures.same.runs)
 
 pub returns-clause-ok : goal.returns-clause-ok
@@ -89,10 +93,13 @@ returns-clause-visits c =
     let to = c.in_ok-at-2.at in
     let ls = lists c.args.blocks.now.items in
     let new = lists c.reserve_from.new.blocks.items in
-    let was : before_spot at (lists c.deref-2.result.now) ≡ before_spot at ls = ap (λ bs. before_spot at (lists bs)) c.deref-2.ensures.value in
-    let count : length (joined (lists c.deref-2.result.now)) ≡ length (joined ls) = ap (λ bs. length (joined (lists bs))) c.deref-2.ensures.value in
+    let was : before_spot at (lists c.deref-2.result.now) ≡ before_spot at ls =
+    ap (λ bs. before_spot at (lists bs)) c.deref-2.ensures.value in
+    let count : length (joined (lists c.deref-2.result.now)) ≡ length (joined ls) =
+    ap (λ bs. length (joined (lists bs))) c.deref-2.ensures.value in
     let here : before_spot to new ≡ before_spot at ls = ap (before_spot to) c.reserve_from.ensures.kept ∙ c.in_ok-at-2.ensures.ok.place in
-    let same : length (joined new) ≡ length (joined ls) = ap length (ap joined c.reserve_from.ensures.kept ∙ c.split_full.ensures.same.runs) in
+    let same : length (joined new) ≡ length (joined ls) =
+    ap length (ap joined c.reserve_from.ensures.kept ∙ c.split_full.ensures.same.runs) in
     (k.0 + m.0, m.1 ∙ ap (λ v. raised v m.0) k.1 ∙ raised-twice c.args.visits.now k.0 m.0, omega (arith, k.2, k.3, m.2, was, here, same, count), λ some. let l = k.4 (omega (arith, some, count)) in omega (arith, l))
 
 pub returns-then-at-len-clause-looks : goal.returns-then-at-len-clause-looks
@@ -100,7 +107,9 @@ returns-then-at-len-clause-looks c =
     let ls = lists c.args.blocks.now.items in
     let place = place-of c.in_ok-at.at c.new-first.result (byte_of c.args.range.stamp c.args.range.first) c.deref-2.result.now c.args.blocks.now.items c.new-first.ensures c.deref-2.ensures.value c.in_ok-at.ensures.place in
     let far : length c.deref-2.result.now ≤ c.in_ok-at.at.block = let n = ap length c.deref-2.ensures.value in search rules in
-    let end : before_spot c.in_ok-at.at ls ≡ length (joined ls) = ap (λ bs. before_spot c.in_ok-at.at (lists bs)) (sym c.deref-2.ensures.value) ∙ c.in_ok-at.ensures.end far ∙ ap (λ bs. length (joined (lists bs))) c.deref-2.ensures.value in
+    let end : before_spot c.in_ok-at.at ls ≡ length (joined ls) =
+    ap (λ bs. before_spot c.in_ok-at.at (lists bs)) (sym c.deref-2.ensures.value) ∙ c.in_ok-at.ensures.end far
+    ∙ ap (λ bs. length (joined (lists bs))) c.deref-2.ensures.value in
     omega (arith, touched-nowhere c.args.range (joined ls) (before_spot c.in_ok-at.at ls) place end, (c.in_ok-at.ensures.visits).1)
 
 pub returns-clause-looks : goal.returns-clause-looks

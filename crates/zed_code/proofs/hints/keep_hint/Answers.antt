@@ -8,7 +8,8 @@ is_number : (places : List ℕ) (b n m : ℕ) → m ≡ n → n < length places 
 is_number places b n m e l le = record {
   within = omega (arith, e, l);
   place = λ p g.
-      let h : get_or places n 0 ≡ p = some-number (get_or places n 0) p (sym (some-place places n 0 l) ∙ ap (slice_get places) (sym e) ∙ g) in
+      let h : get_or places n 0 ≡ p =
+      some-number (get_or places n 0) p (sym (some-place places n 0 l) ∙ ap (slice_get places) (sym e) ∙ g) in
       omega (arith, h, le);
 }
 

@@ -20,7 +20,9 @@ aim_behind-requires-clause-within c =
     let ls = lists c.args.blocks.now in
     let P : Option ElemId → Type 0 = λ o. IsThere o (joined ls) in
     let there : found c.in-Some.a (joined ls) < length (joined ls) = subst P c.in-Some.is c.requires.there in
-    let place = c.in_ok-at-in-Some.ensures.place ∙ found-sought c.in-Some.a (joined ls) c.requires.ordered (found-any c.in-Some.a (joined ls) there) in
+    let place =
+    c.in_ok-at-in-Some.ensures.place
+    ∙ found-sought c.in-Some.a (joined ls) c.requires.ordered (found-any c.in-Some.a (joined ls) there) in
     is-inside c.in_ok-at-in-Some.at ls (length c.args.blocks.now) (omega (arith, place, there)) c.in_ok-at-in-Some.ensures.inside c.in_ok-at-in-Some.ensures.end
 
 pub returns-in_ok-at-in-Some-clause-visits : goal.returns-in_ok-at-in-Some-clause-visits
@@ -32,5 +34,6 @@ returns-in_ok-at-in-Some-clause-visits c =
 pub returns-in_ok-at-in-Some-clause-looks : goal.returns-in_ok-at-in-Some-clause-looks
 returns-in_ok-at-in-Some-clause-looks c =
     let k = c.in_ok-at-in-Some.ensures.visits in
-    let P : Option ElemId → Type 0 = λ o. LooksAtLeast (looks_to_put o c.args.run.stamp (joined (lists c.args.blocks.now))) c.args.visits.now c.aim_behind.new.visits in
+    let P : Option ElemId → Type 0 =
+    λ o. LooksAtLeast (looks_to_put o c.args.run.stamp (joined (lists c.args.blocks.now))) c.args.visits.now c.aim_behind.new.visits in
     subst P (sym c.in-Some.is) (omega (arith, k.1, c.aim_behind.ensures.looks))

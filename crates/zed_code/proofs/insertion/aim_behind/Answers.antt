@@ -57,7 +57,8 @@ returns-clause-runs c =
     let n : c.up_to-bytes.result ≡ up_to c.args.a r = c.up_to-bytes.ensures in
     let l : r.len ≤ up_to c.args.a r = omega (arith, n, c.if-bytes-there.false) in
     let cut : ltb (up_to c.args.a r) r.len ≡ false = grind (arith) in
-    let from : before_spot (record { block = c.args.at.block; place = c.args.at.place + 1 }) ls ≡ suc (found c.args.a (joined ls)) = omega (arith, c.requires.found) in
+    let from : before_spot (record { block = c.args.at.block; place = c.args.at.place + 1 }) ls ≡ suc (found c.args.a (joined ls)) =
+    omega (arith, c.requires.found) in
     let p = c.pass-at.ensures.place ∙ ap (λ k. k + passed c.args.run.stamp (drop k (joined ls))) from in
     put_in-behind c.args.a c.args.run r (joined ls) _ (before_spot c.pass-at.result ls) c.requires.there (ap (λ k. drop k (joined ls)) (sym c.requires.found) ∙ there) cut (omega (arith, p))
 
@@ -70,9 +71,12 @@ pub returns-clause-visits : goal.returns-clause-visits
 returns-clause-visits c =
     let ls = lists c.args.blocks.now in
     let l : found c.args.a (joined ls) < length (joined ls) = c.requires.there in
-    let from : before_spot (record { block = c.args.at.block; place = c.args.at.place + 1 }) ls ≡ before_spot c.args.at ls + 1 = omega arith in
+    let from : before_spot (record { block = c.args.at.block; place = c.args.at.place + 1 }) ls ≡ before_spot c.args.at ls + 1 =
+    omega arith in
     let k = min (before_spot c.pass-at.result ls + 1) (length (joined ls)) - (before_spot c.args.at ls + 1) in
-    let passed : c.pass-at.new.visits ≡ raised c.look-there.new.visits k = c.pass-at.ensures.visits ∙ ap (λ n. raised c.look-there.new.visits (min (before_spot c.pass-at.result ls + 1) (length (joined ls)) - n)) from in
+    let passed : c.pass-at.new.visits ≡ raised c.look-there.new.visits k =
+    c.pass-at.ensures.visits
+    ∙ ap (λ n. raised c.look-there.new.visits (min (before_spot c.pass-at.result ls + 1) (length (joined ls)) - n)) from in
     (1 + k, passed ∙ ap (λ v. raised v k) c.look-there.ensures.visits ∙ raised-twice c.args.visits.now 1 k, omega (arith, l, c.requires.found))
 
 pub returns-then-bytes-there-clause-looks : goal.returns-then-bytes-there-clause-looks
@@ -96,12 +100,16 @@ returns-clause-looks c =
     let cut : ltb (up_to c.args.a r) r.len ≡ false = grind (arith) in
     let here = ap (λ k. drop k (joined ls)) (sym c.requires.found) ∙ there in
     let rest = drop-rest (joined ls) _ r (found c.args.a (joined ls)) here in
-    let all : behind c.args.a (joined ls) ≡ drop (suc (found c.args.a (joined ls))) (joined ls) = behind-whole c.args.a r (joined ls) _ c.requires.there here cut ∙ sym rest in
+    let all : behind c.args.a (joined ls) ≡ drop (suc (found c.args.a (joined ls))) (joined ls) =
+    behind-whole c.args.a r (joined ls) _ c.requires.there here cut ∙ sym rest in
     let count : passed c.args.run.stamp (behind c.args.a (joined ls)) ≡ passed c.args.run.stamp (drop (suc (found c.args.a (joined ls))) (joined ls)) = ap (passed c.args.run.stamp) all in
     let most = passed-most c.args.run.stamp (drop (suc (found c.args.a (joined ls))) (joined ls)) in
-    let from : before_spot (record { block = c.args.at.block; place = c.args.at.place + 1 }) ls ≡ suc (found c.args.a (joined ls)) = omega (arith, c.requires.found) in
+    let from : before_spot (record { block = c.args.at.block; place = c.args.at.place + 1 }) ls ≡ suc (found c.args.a (joined ls)) =
+    omega (arith, c.requires.found) in
     let place = c.pass-at.ensures.place ∙ ap (λ k. k + passed c.args.run.stamp (drop k (joined ls))) from in
     let k = min (before_spot c.pass-at.result ls + 1) (length (joined ls)) - suc (found c.args.a (joined ls)) in
-    let seen : c.pass-at.new.visits ≡ raised c.look-there.new.visits k = c.pass-at.ensures.visits ∙ ap (λ n. raised c.look-there.new.visits (min (before_spot c.pass-at.result ls + 1) (length (joined ls)) - n)) from in
+    let seen : c.pass-at.new.visits ≡ raised c.look-there.new.visits k =
+    c.pass-at.ensures.visits
+    ∙ ap (λ n. raised c.look-there.new.visits (min (before_spot c.pass-at.result ls + 1) (length (joined ls)) - n)) from in
     let there : found c.args.a (joined ls) < length (joined ls) = c.requires.there in
     omega (arith, count, most, place, seen, there, c.look-there.ensures.visits, length-drop (suc (found c.args.a (joined ls))) (joined ls))

@@ -16,12 +16,14 @@ reserve_at-requires c =
 
 pub returns-in_err-reserve_at-clause-same : goal.returns-in_err-reserve_at-clause-same
 returns-in_err-reserve_at-clause-same c =
-    let P : List (List Run) → Type 0 = λ ls. IsSameText (lists c.args.blocks.now.items) ls c.args.places.now.items c.split_full.new.places.items in
+    let P : List (List Run) → Type 0 =
+    λ ls. IsSameText (lists c.args.blocks.now.items) ls c.args.places.now.items c.split_full.new.places.items in
     subst P (sym c.reserve_at.ensures.kept) c.split_full.ensures.same
 
 pub returns-clause-same : goal.returns-clause-same
 returns-clause-same c =
-    let P : List (List Run) → Type 0 = λ ls. IsSameText (lists c.args.blocks.now.items) ls c.args.places.now.items c.split_full.new.places.items in
+    let P : List (List Run) → Type 0 =
+    λ ls. IsSameText (lists c.args.blocks.now.items) ls c.args.places.now.items c.split_full.new.places.items in
     subst P (sym c.reserve_at.ensures.kept) c.split_full.ensures.same
 
 pub returns-clause-aim : goal.returns-clause-aim

@@ -17,7 +17,8 @@ returns-then-place-runs-clause-place c =
     let ls = lists c.args.blocks.now in
     let at = c.loop-at.at in
     let m = ap length c.runs_at-runs.ensures in
-    let k : c.pass_in-place.result ≡ at.place + passed c.args.stamp (drop at.place (list_at at.block ls)) = c.pass_in-place.ensures.place ∙ ap (λ xs. at.place + passed c.args.stamp (drop at.place xs)) c.runs_at-runs.ensures in
+    let k : c.pass_in-place.result ≡ at.place + passed c.args.stamp (drop at.place (list_at at.block ls)) =
+    c.pass_in-place.ensures.place ∙ ap (λ xs. at.place + passed c.args.stamp (drop at.place xs)) c.runs_at-runs.ensures in
     pass-within c.args.stamp at ls c.pass_in-place.result c.loop-at.invariant.within k (omega (arith, m, c.if-place-runs.true)) ∙ c.loop-at.invariant.rest
 
 pub returns-then-place-runs-clause-within : goal.returns-then-place-runs-clause-within
@@ -43,15 +44,20 @@ loop-at-preserved c =
     let n = length-lists c.args.blocks.now in
     let m = ap length c.runs_at-runs.ensures in
     let next = length-next ls at.block c.loop-at.invariant.within.block in
-    let k : c.pass_in-place.result ≡ at.place + passed c.args.stamp (drop at.place (list_at at.block ls)) = c.pass_in-place.ensures.place ∙ ap (λ xs. at.place + passed c.args.stamp (drop at.place xs)) c.runs_at-runs.ensures in
+    let k : c.pass_in-place.result ≡ at.place + passed c.args.stamp (drop at.place (list_at at.block ls)) =
+    c.pass_in-place.ensures.place ∙ ap (λ xs. at.place + passed c.args.stamp (drop at.place xs)) c.runs_at-runs.ensures in
     let seen = before_spot at ls - before_spot c.args.from ls in
     let more = min (c.pass_in-place.result + 1) (length c.runs_at-runs.result.now) - at.place in
     let count : seen + more ≡ length (joined (take (at.block + 1) ls)) + 0 - before_spot c.args.from ls = omega (arith, m, next, c.loop-at.invariant.more, c.loop-at.invariant.within.place, c.if-place-runs.false, c.pass_in-place.ensures.place) in
     record {
       within = record { block = omega (arith, n, c.loop-at-test.true); place = omega arith };
-      rest = pass-beyond c.args.stamp at ls c.pass_in-place.result c.loop-at.invariant.within k (omega (arith, m, c.if-place-runs.false)) ∙ c.loop-at.invariant.rest;
+      rest =
+          pass-beyond c.args.stamp at ls c.pass_in-place.result c.loop-at.invariant.within k (omega (arith, m, c.if-place-runs.false))
+          ∙ c.loop-at.invariant.rest;
       more = omega (arith, next, c.loop-at.invariant.more, c.loop-at.invariant.within.place);
-      looked = c.pass_in-place.ensures.visits ∙ ap (λ v. raised v more) c.loop-at.invariant.looked ∙ raised-twice c.args.visits.now seen more ∙ ap (raised c.args.visits.now) count;
+      looked =
+          c.pass_in-place.ensures.visits ∙ ap (λ v. raised v more) c.loop-at.invariant.looked ∙ raised-twice c.args.visits.now seen more
+          ∙ ap (raised c.args.visits.now) count;
     }
 
 pub pass_in-requires : goal.pass_in-requires
@@ -64,7 +70,8 @@ returns-clause-place c =
     let ls = lists c.args.blocks.now in
     let at = c.loop-at.at in
     let n = length-lists c.args.blocks.now in
-    let k : c.pass_in.result ≡ at.place + passed c.args.stamp (drop at.place (list_at at.block ls)) = c.pass_in.ensures.place ∙ ap (λ xs. at.place + passed c.args.stamp (drop at.place xs)) c.runs_at.ensures in
+    let k : c.pass_in.result ≡ at.place + passed c.args.stamp (drop at.place (list_at at.block ls)) =
+    c.pass_in.ensures.place ∙ ap (λ xs. at.place + passed c.args.stamp (drop at.place xs)) c.runs_at.ensures in
     pass-last c.args.stamp at ls c.pass_in.result c.loop-at.invariant.within k (omega (arith, n, c.loop-at-test.false)) ∙ c.loop-at.invariant.rest
 
 pub returns-clause-within : goal.returns-clause-within

@@ -23,6 +23,8 @@ loop-block-preserved c =
     let e = c.count_in-count.ensures ∙ ap live c.deref.ensures.value in
     let behind = joined (drop (c.loop-block.block-index + 1) (lists c.args.blocks.now)) in
     record {
-      rest = ap (λ n. live_at behind (c.loop-block.rest - n)) e ∙ sym (h.behind c.loop-block.rest (omega (arith, e, c.if-rest-count.false))) ∙ c.loop-block.invariant.rest;
+      rest =
+          ap (λ n. live_at behind (c.loop-block.rest - n)) e ∙ sym (h.behind c.loop-block.rest (omega (arith, e, c.if-rest-count.false)))
+          ∙ c.loop-block.invariant.rest;
       room = omega (arith, h.room, c.loop-block.invariant.room);
     }

@@ -14,7 +14,8 @@ use Rattle.zed_code.proofs.readers.push_names.Goals as goal
 pub push_names_in-left-requires-clause-each : goal.push_names_in-left-requires-clause-each
 push_names_in-left-requires-clause-each c =
     let bs = c.args.blocks.now in
-    let here : list_at c.loop-block.block-index (lists bs) ≡ c.deref.result.now = list_at-is bs c.loop-block.block-index c.block-item.result c.loop-block-test.true c.block-item.is ∙ sym c.deref.ensures.value in
+    let here : list_at c.loop-block.block-index (lists bs) ≡ c.deref.result.now =
+    list_at-is bs c.loop-block.block-index c.block-item.result c.loop-block-test.true c.block-item.is ∙ sym c.deref.ensures.value in
     let P : List Run → Type 0 = λ rs. AllByRecursion IsSound rs in
     subst P here (each-at IsSound (lists bs) c.loop-block.block-index c.requires.each)
 
@@ -24,7 +25,8 @@ loop-block-preserved c =
     let i = c.loop-block.block-index in
     let xs = c.deref.result.now in
     let ys = joined (drop (i + 1) (lists bs)) in
-    let from : joined (drop i (lists bs)) ≡ xs ++ ys = next-block bs i c.block-item.result c.loop-block-test.true c.block-item.is ∙ ap (λ zs. zs ++ ys) (sym c.deref.ensures.value) in
+    let from : joined (drop i (lists bs)) ≡ xs ++ ys =
+    next-block bs i c.block-item.result c.loop-block-test.true c.block-item.is ∙ ap (λ zs. zs ++ ys) (sym c.deref.ensures.value) in
     let out = c.loop-block.out.items in
     let left = c.loop-block.left in
     let here = between left (live_names xs) in
@@ -50,6 +52,7 @@ pub returns : goal.returns
 returns c =
     let ls = lists c.args.blocks.now in
     let out = c.loop-block.out.items in
-    let past : joined (drop c.loop-block.block-index ls) ≡ [] = drop-none ls c.loop-block.block-index (omega (arith, length-lists c.args.blocks.now, c.loop-block-test.false)) in
+    let past : joined (drop c.loop-block.block-index ls) ≡ [] =
+    drop-none ls c.loop-block.block-index (omega (arith, length-lists c.args.blocks.now, c.loop-block-test.false)) in
     sym (append-nil out) ∙ ap (λ xs. out ++ xs) (sym (between-none ElemId c.loop-block.left))
     ∙ ap (λ rs. out ++ between c.loop-block.left (live_names rs)) (sym past) ∙ c.loop-block.invariant.made

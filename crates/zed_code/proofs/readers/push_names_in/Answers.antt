@@ -11,7 +11,8 @@ use Rattle.zed_code.proofs.Rests.{none}
 use Rattle.zed_code.proofs.readers.push_names_in.Goals as goal
 
 pub push_names_of-left-requires-clause-sound : goal.push_names_of-left-requires-clause-sound
-push_names_of-left-requires-clause-sound c = All-from_recursion IsSound c.args.runs.now c.requires.each c.loop-run.run-index none c.loop-run-test.true
+push_names_of-left-requires-clause-sound c =
+    All-from_recursion IsSound c.args.runs.now c.requires.each c.loop-run.run-index none c.loop-run-test.true
 
 pub loop-run-preserved : goal.loop-run-preserved
 loop-run-preserved c =

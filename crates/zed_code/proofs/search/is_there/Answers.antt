@@ -17,5 +17,6 @@ returns c =
 pub returns-then-at-blocks : goal.returns-then-at-blocks
 returns-then-at-blocks c =
     let ls = lists c.args.blocks.now in
-    let all : sought c.args.id.name.stamp c.args.id.name.index (joined ls) ≡ length (joined ls) = sym c.find_asked.ensures.place ∙ c.find_asked.ensures.end (omega (arith, c.if-at-blocks.true)) in
+    let all : sought c.args.id.name.stamp c.args.id.name.index (joined ls) ≡ length (joined ls) =
+    sym c.find_asked.ensures.place ∙ c.find_asked.ensures.end (omega (arith, c.if-at-blocks.true)) in
     sym (any-none c.args.id (joined ls) all)

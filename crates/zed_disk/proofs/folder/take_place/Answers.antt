@@ -21,7 +21,8 @@ returns-in_err-keep-in-Kept-clause-stopped g c =
     let after = g.F.Folder.steps c.keep.new.self in
     let kept : WentInto (placing Kept bytes) [] before after =
     (making bytes ++ Keep ∷ [], Rename ∷ [], refl, went_on (making bytes) (Keep ∷ []) _ _ _ c.in_ok-make.ensures.asked c.keep.ensures.asked) in
-    let went : WentInto (placing c.args.old bytes) [] before after = subst (λ (old : Old). WentInto (placing old bytes) [] before after) (sym c.in-Kept.is) kept in
+    let went : WentInto (placing c.args.old bytes) [] before after =
+    subst (λ (old : Old). WentInto (placing old bytes) [] before after) (sym c.in-Kept.is) kept in
     search rules
 
 -- the new file wasn't renamed

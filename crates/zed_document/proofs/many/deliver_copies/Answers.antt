@@ -17,7 +17,8 @@ loop-edit-preserved c =
     let e = c.edit-item.result in
     let other = c.args.other.now in
     let own = c.args.intake.now.edits in
-    let taken : take (suc i) other ≡ take i other ++ e ∷ [] = take-suc other i e (omega arith) ∙ ap (λ (x : Edit). take i other ++ x ∷ []) (sym c.edit-item.is) in
+    let taken : take (suc i) other ≡ take i other ++ e ∷ [] =
+    take-suc other i e (omega arith) ∙ ap (λ (x : Edit). take i other ++ x ∷ []) (sym c.edit-item.is) in
     rw add-one (record {
       edits = o.edits ∙ ap (with_edit e) old.edits ∙ sym (union_last own (take i other) e) ∙ ap (union own) (sym taken);
       grown = grown_more c.args.intake.now c.loop-edit.intake c.deliver_copy.new.intake old.grown o.grows;
@@ -32,7 +33,8 @@ returns-in_err-deliver_copy-clause-front c =
     let i = c.loop-edit.edit-index in
     let e = c.edit-item.result in
     let other = c.args.other.now in
-    let cut : drop i other ≡ e ∷ drop (i + 1) other = drop_more other i e (omega arith) ∙ ap (λ (x : Edit). x ∷ drop (i + 1) other) (sym c.edit-item.is) in
+    let cut : drop i other ≡ e ∷ drop (i + 1) other =
+    drop_more other i e (omega arith) ∙ ap (λ (x : Edit). x ∷ drop (i + 1) other) (sym c.edit-item.is) in
     rw p.1 (e.stamp, c.in_err-deliver_copy.ensures.edits ∙ c.loop-edit.invariant.edits ∙ ap (union c.args.intake.now.edits) (front_below other (drop (i + 1) other) i e c.requires.rising cut))
 
 pub returns-in_err-deliver_copy-clause-new : goal.returns-in_err-deliver_copy-clause-new
@@ -42,6 +44,8 @@ returns-in_err-deliver_copy-clause-new c =
     let e = c.edit-item.result in
     let other = c.args.other.now in
     let own = c.args.intake.now.edits in
-    let cut : drop i other ≡ e ∷ drop (i + 1) other = drop_more other i e (omega arith) ∙ ap (λ (x : Edit). x ∷ drop (i + 1) other) (sym c.edit-item.is) in
-    let none : edit_with e.stamp (union own (take i other)) ≡ None = ap (edit_with e.stamp) (sym c.loop-edit.invariant.edits) ∙ c.in_err-deliver_copy.ensures.new in
+    let cut : drop i other ≡ e ∷ drop (i + 1) other =
+    drop_more other i e (omega arith) ∙ ap (λ (x : Edit). x ∷ drop (i + 1) other) (sym c.edit-item.is) in
+    let none : edit_with e.stamp (union own (take i other)) ≡ None =
+    ap (edit_with e.stamp) (sym c.loop-edit.invariant.edits) ∙ c.in_err-deliver_copy.ensures.new in
     rw p.1 (one_new own other (drop (i + 1) other) i e cut (none_first e.stamp own (take i other) none))

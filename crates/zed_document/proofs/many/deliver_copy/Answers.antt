@@ -16,7 +16,8 @@ pub returns-clause-grows : goal.returns-clause-grows
 returns-clause-grows c =
     let kept : c.seek.new.self ≡ c.args.intake.now = c.seek.ensures in
     let none = found_none c.args.edit.now.stamp c.find.result c.seek.new.self.edits (sym c.is_some.ensures ∙ c.if-is_some.false) c.find.ensures.none in
-    let new : edit_with c.args.edit.now.stamp c.args.intake.now.edits ≡ None = ap (λ (r : Replica). edit_with c.args.edit.now.stamp r.edits) (sym kept) ∙ none in
+    let new : edit_with c.args.edit.now.stamp c.args.intake.now.edits ≡ None =
+    ap (λ (r : Replica). edit_with c.args.edit.now.stamp r.edits) (sym kept) ∙ none in
     let more : c.deliver.new.self.edits ≡ with_edit c.args.edit.now c.args.intake.now.edits =
     c.in_ok-deliver.ensures.edits ∙ ap (λ (e : Edit). with_edit e c.seek.new.self.edits) c.in_ok-copy.ensures.ok ∙ ap (λ (r : Replica). with_edit c.args.edit.now r.edits) kept in
     inr (subst (λ (es : List Edit). length c.args.intake.now.edits < length es) (sym more) (one_longer c.args.edit.now c.args.intake.now.edits new))

@@ -7,7 +7,8 @@ use Rattle.zed_drawing.proofs.Beside.{other_gives, other_reads, own_base, own_re
 use Rattle.zed_drawing.proofs.base.find_base.Goals as goal
 
 pub returns-then-eq-clause-found : goal.returns-then-eq-clause-found
-returns-then-eq-clause-found g c = λ t at. own_base _ t c.args.presence c.args.base.now c.args.file.now c.args.number (sym c.eq.ensures ∙ c.if-eq.true)
+returns-then-eq-clause-found g c =
+    λ t at. own_base _ t c.args.presence c.args.base.now c.args.file.now c.args.number (sym c.eq.ensures ∙ c.if-eq.true)
 
 pub returns-then-eq-clause-asked : goal.returns-then-eq-clause-asked
 returns-then-eq-clause-asked g c =

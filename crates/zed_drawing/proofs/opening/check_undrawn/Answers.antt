@@ -33,7 +33,8 @@ returns-then-is_shown-clause-undrawn g c = λ t at es saved.
     let shows = rw c.if-is_shown.true at (c.in_ok-is_shown.ensures.is es saved) in inl (shows, refl)
 
 pub returns-then-is_shown-clause-asked : goal.returns-then-is_shown-clause-asked
-returns-then-is_shown-clause-asked g c = nothing_read g.H.Host.called (MayReadBase c.args.file.now c.args.base.now) c.args.host.now (inl refl)
+returns-then-is_shown-clause-asked g c =
+    nothing_read g.H.Host.called (MayReadBase c.args.file.now c.args.base.now) c.args.host.now (inl refl)
 
 pub returns-then-is_shown-clause-failures : goal.returns-then-is_shown-clause-failures
 returns-then-is_shown-clause-failures g c = let lost = none_lost g.H.Host.faults g.H.Host.failed c.args.host.now in (lost.0, lost.1, tt)

@@ -5,7 +5,8 @@ use Rattle.zed_drawing.proofs.Earlier.{early_fit, early_rising}
 use Rattle.zed_drawing.proofs.opening.copy_up_to.Goals as goal
 
 pub deliver_all-requires-clause-fit : goal.deliver_all-requires-clause-fit
-deliver_all-requires-clause-fit c = rw (c.in_ok-edits.ensures.ok, c.edits.ensures.all) (early_fit c.args.time c.args.document.now.edits c.edits.ensures.fit)
+deliver_all-requires-clause-fit c =
+    rw (c.in_ok-edits.ensures.ok, c.edits.ensures.all) (early_fit c.args.time c.args.document.now.edits c.edits.ensures.fit)
 
 pub returns-in-Ok-clause-edits : goal.returns-in-Ok-clause-edits
 returns-in-Ok-clause-edits c =

@@ -39,7 +39,8 @@ returns-in_err-read_world-clause-asked g c =
     let e = c.in_err-read_world.field-0.0 in
     let bytes = c.as_slice.result.now in
     let told = Refused (world_refusal e) in
-    let other = or_other (IsWorld bytes (Err told)) told (world_other bytes told) (told_refusal bytes e c.in_err-read_world.ensures.result) in
+    let other =
+    or_other (IsWorld bytes (Err told)) told (world_other bytes told) (told_refusal bytes e c.in_err-read_world.ensures.result) in
     rw (p.1, p.2) (done_refused g.H.Host.called (λ a. a ≡ call (Reading c.args.name.now) false ∷ []) told _ _ other
     (read_passed g.H.Host.called c.args.name.now _ _ c.in_ok-bytes.ensures.asked))
 
@@ -49,7 +50,8 @@ returns-in_err-read_world-clause-failures g c =
     let e = c.in_err-read_world.field-0.0 in
     let bytes = c.as_slice.result.now in
     let told = Refused (world_refusal e) in
-    let other = or_other (IsWorld bytes (Err told)) told (world_other bytes told) (told_refusal bytes e c.in_err-read_world.ensures.result) in
+    let other =
+    or_other (IsWorld bytes (Err told)) told (world_other bytes told) (told_refusal bytes e c.in_err-read_world.ensures.result) in
     rw (p.1, p.2) (tells_other g.H.Host.faults g.H.Host.failed told _ _ other c.in_ok-bytes.ensures.failures.0)
 
 pub returns-clause-read : goal.returns-clause-read

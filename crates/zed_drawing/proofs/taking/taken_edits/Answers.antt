@@ -17,7 +17,8 @@ returns-in_err-edits c =
 
 pub returns : goal.returns
 returns c = record {
-  taken = taken_is c.args.document.now c.args.base.now c.args.world.now c.args.replica c.in_ok-edits.edits.items c.in_ok-edits.ensures.taken;
+  taken =
+      taken_is c.args.document.now c.args.base.now c.args.world.now c.args.replica c.in_ok-edits.edits.items c.in_ok-edits.ensures.taken;
   fit = c.in_ok-edits.ensures.taken.lead.fit;
   base_joins = c.in_ok-edits.ensures.taken.lead.joins;
   file_joins = c.in_ok-edits.ensures.joins;

@@ -12,7 +12,8 @@ loop-board-preserved c = record {
       let b = c.board-item.result in
       let added : c.open_texts_of.new.texts ≡ c.loop-board.texts ++ map_from (opened_text c.args.stamp) c.loop-board.t (filter_map own_program b.stats)
       = rw (c.as_slice.ensures) at c.in_ok-t.ensures.added in
-      let number : c.in_ok-t.t ≡ c.loop-board.t + length (filter_map own_program b.stats) = rw (c.as_slice.ensures) at c.in_ok-t.ensures.number in
+      let number : c.in_ok-t.t ≡ c.loop-board.t + length (filter_map own_program b.stats) =
+      rw (c.as_slice.ensures) at c.in_ok-t.ensures.number in
       texts_more (opened_text c.args.stamp) c.loop-board.texts c.open_texts_of.new.texts (c.args.texts.now ++ opened_texts c.args.stamp bs) c.loop-board.t c.in_ok-t.t bs c.loop-board.board-index b
       c.loop-board-test.true c.board-item.is added number c.loop-board.invariant.made;
   few = let f = c.in_ok-t.ensures.few in omega (arith, c.loop-board.invariant.few);

@@ -21,7 +21,8 @@ pub returns-in-None-clause-none : goal.returns-in-None-clause-none
 returns-in-None-clause-none c =
     let h = rw c.in-None.is at c.in_ok-length_of.ensures.none in
     let s = rw c.as_slice.ensures at h in
-    let d = short_on c.args.version _ c.fill.new.kept.items c.in_ok-piece.piece.now c.in_ok-piece.ensures.all c.in_ok-piece.ensures.none s in
+    let d =
+    short_on c.args.version _ c.fill.new.kept.items c.in_ok-piece.piece.now c.in_ok-piece.ensures.all c.in_ok-piece.ensures.none s in
     (refl, d.0, d.1)
 
 pub returns-in-None-2-clause-none : goal.returns-in-None-2-clause-none

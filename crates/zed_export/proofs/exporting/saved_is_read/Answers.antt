@@ -30,7 +30,8 @@ read_again : WrittenIsRead → SavedIsRead
 unfolding WrittenIsRead
 read_again law limit p file low normal e = go (refusal_of limit p) refl e
   where
-    go : (o : Option ExportError) → refusal_of limit p ≡ o → unless_over o (world_text (world_of p)) ≡ Ok file → world_at file ≡ Ok (world_of p)
+    go : (o : Option ExportError) → refusal_of limit p ≡ o → unless_over o (world_text (world_of p)) ≡ Ok file
+        → world_at file ≡ Ok (world_of p)
     go (Some refusal) h e = absurd (cc)
     go None h e =
         let text : world_text (world_of p) ≡ file = cc in
@@ -45,7 +46,8 @@ authored_is_read read rising fit ordered regular integers limit es file authored
     normal : refusal_of limit p ≡ None → HasNormalParts (world_of p)
     normal within = integers_normal limit p (regular (set_of es) (fit es authored.fit)) (ordered (set_of es) (rising es)) (integers (set_of es) (each-set HasSizes es authored.sizes)) low within
 
-    go : (o : Option ExportError) → refusal_of limit p ≡ o → unless_over o (world_text (world_of p)) ≡ Ok file → world_at file ≡ Ok (world_of p)
+    go : (o : Option ExportError) → refusal_of limit p ≡ o → unless_over o (world_text (world_of p)) ≡ Ok file
+        → world_at file ≡ Ok (world_of p)
     go (Some refusal) h a = absurd (cc)
     go None h a = read limit p file low (normal h) answer
 

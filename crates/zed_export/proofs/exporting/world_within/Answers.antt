@@ -23,7 +23,8 @@ new-requires-clause-parts c =
     let p = c.args.view.now in
     let by_number = subst (AreByNumber p) (sym c.as_slice-places.ensures) c.boards_by_number-order.ensures in
     let header : c.in_ok-header.header ≡ exported_header p = c.in_ok-header.ensures.result in
-    let boards : c.in_ok-boards.boards ≡ exported_boards p = c.in_ok-boards.ensures.result ∙ exported_at p c.as_slice-places.result.now by_number in
+    let boards : c.in_ok-boards.boards ≡ exported_boards p =
+    c.in_ok-boards.ensures.result ∙ exported_at p c.as_slice-places.result.now by_number in
     let fits_header : FitsHeader (exported_header p) = rw (sym header) c.in_ok-header.ensures.fits in
     let fits_boards : AllByRecursion FitsBoard (exported_boards p) = rw (sym boards) c.in_ok-boards.ensures.fits in
     rw (header, boards) (world_normal c.args.limit p c.requires.regular c.requires.ordered c.requires.limit c.requires.within fits_header fits_boards)
@@ -32,7 +33,8 @@ pub new-requires-clause-bodies : goal.new-requires-clause-bodies
 new-requires-clause-bodies c =
     let p = c.args.view.now in
     let by_number = subst (AreByNumber p) (sym c.as_slice-places.ensures) c.boards_by_number-order.ensures in
-    let boards : c.in_ok-boards.boards ≡ exported_boards p = c.in_ok-boards.ensures.result ∙ exported_at p c.as_slice-places.result.now by_number in
+    let boards : c.in_ok-boards.boards ≡ exported_boards p =
+    c.in_ok-boards.ensures.result ∙ exported_at p c.as_slice-places.result.now by_number in
     rw boards (all_readable c.args.limit 0 (exported_boards p) c.requires.limit (boards_within c.args.limit p c.requires.within))
 
 pub returns : goal.returns

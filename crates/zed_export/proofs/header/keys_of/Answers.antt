@@ -3,7 +3,9 @@ use Rattle.zed_live.specs.Shown.{shown}
 use Rattle.zed_export.proofs.header.keys_of.Goals as goal
 
 -- a list of seven, written out
-seven : (xs : List Bool) → length xs ≡ 7 → get_or xs 0 false ∷ get_or xs 1 false ∷ get_or xs 2 false ∷ get_or xs 3 false ∷ get_or xs 4 false ∷ get_or xs 5 false ∷ get_or xs 6 false ∷ [] ≡ xs
+seven : (xs : List Bool) → length xs ≡ 7
+    → get_or xs 0 false ∷ get_or xs 1 false ∷ get_or xs 2 false ∷ get_or xs 3 false ∷ get_or xs 4 false ∷ get_or xs 5 false ∷ get_or xs 6 false ∷ []
+    ≡ xs
 seven (a ∷ b ∷ c ∷ d ∷ e ∷ f ∷ g ∷ []) h = refl
 seven _ h = absurd (omega arith)
 

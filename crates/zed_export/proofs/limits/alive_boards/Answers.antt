@@ -9,5 +9,6 @@ pub returns : goal.returns
 returns c =
     let p = c.args.view.now in
     let is_live = λ (b : Board). not b.removed in
-    let none : filter is_live (drop c.loop-i.i p.boards) ≡ [] = ap (filter is_live) (drop_all c.loop-i.i p.boards (omega (arith, c.boards-i-end.ensures))) in
+    let none : filter is_live (drop c.loop-i.i p.boards) ≡ [] =
+    ap (filter is_live) (drop_all c.loop-i.i p.boards (omega (arith, c.boards-i-end.ensures))) in
     omega (arith, ap length none, c.loop-i.invariant.counts, as_many p c.requires)

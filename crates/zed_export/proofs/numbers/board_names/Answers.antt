@@ -16,7 +16,9 @@ pub invariant_of-result : goal.invariant_of-result
 invariant_of-result c =
     let place = λ (xs ys : List Name). map (place_among xs) ys in
     record {
-      each = c.in_ok-numbers.ensures ∙ ap (λ (xs : List Name). place xs c.deref.result.now) c.deref-2.ensures.value ∙ ap (place c.in_ok-by_number.by_number.items) (c.deref.ensures.value ∙ c.names.view_is);
+      each =
+          c.in_ok-numbers.ensures ∙ ap (λ (xs : List Name). place xs c.deref.result.now) c.deref-2.ensures.value
+          ∙ ap (place c.in_ok-by_number.by_number.items) (c.deref.ensures.value ∙ c.names.view_is);
       all = λ name missing.
           ap (λ (xs : List Name). place_among xs name) (returns c)
           ∙ none_there c.args.view.now c.requires.ordered name (ap (λ (xs : List Name). place_among xs name) (sym c.in_ok-names.ensures) ∙ missing);

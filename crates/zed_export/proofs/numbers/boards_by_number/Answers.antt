@@ -9,6 +9,8 @@ pub returns : goal.returns
 returns c =
     let p = c.args.view.now in
     record {
-      boards = c.first_boards.ensures.boards ∙ first-so 101 (boards_there p) (boards_there_are_apart p c.requires.ordered) ∙ take_all 101 (alive_boards p) c.requires.few;
+      boards =
+          c.first_boards.ensures.boards ∙ first-so 101 (boards_there p) (boards_there_are_apart p c.requires.ordered)
+          ∙ take_all 101 (alive_boards p) c.requires.few;
       within = c.first_boards.ensures.within;
     }

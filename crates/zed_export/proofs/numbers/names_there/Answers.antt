@@ -11,5 +11,6 @@ invariant_of-result c =
     let items = c.loop-i.names.items in
     let bs = c.args.view.now.boards in
     let rest = λ (left : List Board). items ++ map (λ b. b.id.name) (filter (λ b. not b.removed) left) in
-    let all : items ≡ map (λ b. b.id.name) (boards_there c.args.view.now) = sym (append-nil items) ∙ ap rest (sym (drop_all c.loop-i.i bs (omega (arith, c.boards-i-end.ensures)))) ∙ c.loop-i.invariant in
+    let all : items ≡ map (λ b. b.id.name) (boards_there c.args.view.now) =
+    sym (append-nil items) ∙ ap rest (sym (drop_all c.loop-i.i bs (omega (arith, c.boards-i-end.ensures)))) ∙ c.loop-i.invariant in
     rw all (names_there_rise c.args.view.now c.requires)

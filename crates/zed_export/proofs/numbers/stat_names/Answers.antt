@@ -13,5 +13,6 @@ invariant_of-result c =
     let items = c.loop-j.names.items in
     let b = board_at c.args.view.now c.args.i in
     let rest = λ (left : List Stat). items ++ map (λ s. s.id.name) (filter (λ s. not s.removed) left) in
-    let all : items ≡ stat_names b = sym (append-nil items) ∙ ap rest (sym (drop_all c.loop-j.j b.stats (omega (arith, c.stats-j-end.ensures)))) ∙ c.loop-j.invariant in
+    let all : items ≡ stat_names b =
+    sym (append-nil items) ∙ ap rest (sym (drop_all c.loop-j.j b.stats (omega (arith, c.stats-j-end.ensures)))) ∙ c.loop-j.invariant in
     rw all (stat_names_rise b (all_at StatsRise c.args.view.now.boards c.args.i no_board c.requires.board c.requires.ordered.stats))

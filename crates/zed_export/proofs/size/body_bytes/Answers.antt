@@ -14,6 +14,7 @@ returns c =
     let b = board_at c.args.view.now c.args.i in
     let x = exported_board c.args.view.now b in
     let whole = length_body x c.requires.name c.requires.message in
-    let runs : c.runs_len-frame.result ≡ length (greedy b.tiles) = c.runs_len-frame.ensures.result ∙ ap (λ (ts : List Tile). length (greedy ts)) c.table.ensures in
+    let runs : c.runs_len-frame.result ≡ length (greedy b.tiles) =
+    c.runs_len-frame.ensures.result ∙ ap (λ (ts : List Tile). length (greedy ts)) c.table.ensures in
     let stats : c.stats_bytes.result ≡ told (length (flat_map stat_text x.stats)) = c.stats_bytes.ensures in
     omega (arith, c.saturating_add.ensures)

@@ -16,7 +16,8 @@ returns-in_err-add_board-clause-memory_only_when c =
     let out = c.loop-number.out in
     let before = c.args.out.now in
     let is : get_or bs n b ≡ b = cc (c.index-boards-number.is) in
-    let step : drop n bs ≡ b ∷ drop (n + 1) bs = drop_more bs n b c.loop-number-test.true ∙ ap (λ (y : BoardData). y ∷ drop (n + 1) bs) is in
+    let step : drop n bs ≡ b ∷ drop (n + 1) bs =
+    drop_more bs n b c.loop-number-test.true ∙ ap (λ (y : BoardData). y ∷ drop (n + 1) bs) is in
     let whole = subst (λ (l : List BoardData). out.items ++ boards_warnings n l ≡ before.items ++ boards_warnings 0 bs) step c.loop-number.invariant.made in
     let none = lacks_part before.items out.items (boards_warnings 0 bs) (board_warnings n b) (boards_warnings (n + 1) (drop (n + 1) bs)) (vec_capacity before) (vec_capacity out)
     whole c.loop-number.invariant.roomy (omega (arith, c.in_err-add_board.ensures.memory_only_when)) in

@@ -35,7 +35,8 @@ loop-name-preserved g c =
       done = old.done ++ took.0;
       fit = fit_append _ _ old.fit (file_fits _ _ _ _ file.2);
       came = took.2;
-      asked = read_next g.H.Host.called c.args.names.now c.loop-name.name-index _ _ _ _ c.loop-name-test.true old.asked c.in-Ok.ensures.asked;
+      asked =
+          read_next g.H.Host.called c.args.names.now c.loop-name.name-index _ _ _ _ c.loop-name-test.true old.asked c.in-Ok.ensures.asked;
       read = λ t now rest at reads s is.
           let first = c.in-Ok.ensures.bytes t (old.same ∙ at) in
           next_file (IsStreamIn (Rose (g.H.Host.faults c.args.host.now) now) t (texts_of c.args.names.now)) (world_in c.loop-name.gathered.feed) c.in-Ok.bytes.items rest _ old.done took.0 file.0
@@ -96,7 +97,8 @@ returns-in_default-clause-asked g c =
 pub returns-in_default-clause-memory_only_when : goal.returns-in_default-clause-memory_only_when
 returns-in_default-clause-memory_only_when g c = λ t at.
     let old = c.loop-name.invariant in
-    let lack : c.in-Err.refusal ≡ Memory = elim c.in-Err.ensures.err [ inl memory ↦ memory | inr file ↦ absurd (c.in_default.not-File file) ] in
+    let lack : c.in-Err.refusal ≡ Memory =
+    elim c.in-Err.ensures.err [ inl memory ↦ memory | inr file ↦ absurd (c.in_default.not-File file) ] in
     first_there t c.args.names.now c.loop-name.name-index _ c.loop-name-test.true (c.in-Err.ensures.memory_only_when t (old.same ∙ at) lack) (old.there t at)
 
 pub returns-in_err-read-clause-memory_only_when : goal.returns-in_err-read-clause-memory_only_when
@@ -144,4 +146,5 @@ returns-in-Some g c =
     }
 
 pub read-requires : goal.read-requires
-read-requires g c = record { sound = came_sound c.loop-name.gathered.feed c.loop-name.invariant.done c.loop-name.gathered.clash c.loop-name.invariant.came }
+read-requires g c =
+    record { sound = came_sound c.loop-name.gathered.feed c.loop-name.invariant.done c.loop-name.gathered.clash c.loop-name.invariant.came }

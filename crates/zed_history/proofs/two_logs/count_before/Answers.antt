@@ -11,7 +11,8 @@ returns-else-is_before-clause-below c =
 
 pub returns-else-is_before-clause-above : goal.returns-else-is_before-clause-above
 returns-else-is_before-clause-above c =
-    let g : slice_get c.args.edits.now c.loop-count.count ≡ Some c.index-edits-count.result = get-at c.args.edits.now c.loop-count.count c.index-edits-count.result (omega arith) c.index-edits-count.is in
+    let g : slice_get c.args.edits.now c.loop-count.count ≡ Some c.index-edits-count.result =
+    get-at c.args.edits.now c.loop-count.count c.index-edits-count.result (omega arith) c.index-edits-count.is in
     let b : before c.index-edits-count.result.stamp c.args.stamp ≡ false = search rules in
     from-drop c.args.stamp c.args.edits.now c.loop-count.count c.requires (rw g b)
 

@@ -8,14 +8,16 @@ use Rattle.zed_host.proofs.memory.found.Goals as goal
 
 pub returns-then-eq : goal.returns-then-eq
 returns-then-eq c =
-    let same : bytes_eq c.args.name.now (string_bytes c.entry-item.result.name) ≡ true = rw c.as_str.ensures.value at (sym c.eq.ensures ∙ c.if-eq.true) in
+    let same : bytes_eq c.args.name.now (string_bytes c.entry-item.result.name) ≡ true =
+    rw c.as_str.ensures.value at (sym c.eq.ensures ∙ c.if-eq.true) in
     let here = find_step c.args.entries.now c.loop-entry.entry-index c.entry-item.result c.args.name.now true c.loop-entry-test.true c.entry-item.is same in
     ap (λ bytes. Some bytes) c.as_slice.ensures.value ∙ sym here ∙ c.loop-entry.invariant
     ∙ sym (get-from_entries nat_list_cmp_total (entries_of c.args.entries.now) c.args.name.now)
 
 pub loop-entry-preserved : goal.loop-entry-preserved
 loop-entry-preserved c =
-    let same : bytes_eq c.args.name.now (string_bytes c.entry-item.result.name) ≡ false = rw c.as_str.ensures.value at (sym c.eq.ensures ∙ c.if-eq.false) in
+    let same : bytes_eq c.args.name.now (string_bytes c.entry-item.result.name) ≡ false =
+    rw c.as_str.ensures.value at (sym c.eq.ensures ∙ c.if-eq.false) in
     let here = find_step c.args.entries.now c.loop-entry.entry-index c.entry-item.result c.args.name.now false c.loop-entry-test.true c.entry-item.is same in
     sym here ∙ c.loop-entry.invariant
 

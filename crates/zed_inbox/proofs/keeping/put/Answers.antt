@@ -8,7 +8,8 @@ use Rattle.zed_inbox.proofs.Whole.{edits_more, whole_more, whole_back, whole_sam
 use Rattle.zed_inbox.proofs.keeping.put.Goals as goal
 
 pub list-requires : goal.list-requires
-list-requires c = unlisted c.args.edit.stamp (values_of c.args.edits.now.entries) c.args.waits.now.keys c.requires.new c.requires.whole.listed
+list-requires c =
+    unlisted c.args.edit.stamp (values_of c.args.edits.now.entries) c.args.waits.now.keys c.requires.new c.requires.whole.listed
 
 pub returns-in_err-list-clause-whole : goal.returns-in_err-list-clause-whole
 returns-in_err-list-clause-whole c =

@@ -31,7 +31,8 @@ returns-clause-items t c =
     let n = c.args.number in
     let old : List ℕ = c.args.bytes.now.items in
     let last : List ℕ = (48 + n % 10) ∷ [] in
-    let pushed : c.push_reserved.new.self.items ≡ c.if-number-ge10.bytes.items ++ last = c.push_reserved.ensures.items ∙ ap (λ (d : ℕ). c.if-number-ge10.bytes.items ++ d ∷ []) c.digit_of.ensures in
+    let pushed : c.push_reserved.new.self.items ≡ c.if-number-ge10.bytes.items ++ last =
+    c.push_reserved.ensures.items ∙ ap (λ (d : ℕ). c.if-number-ge10.bytes.items ++ d ∷ []) c.digit_of.ensures in
     elim c.if-number-ge10.branch [
       | then-number-ge10 w ↦
           let digits = more_digits n w.if-number-ge10.true (omega (arith, c.ranges.number.fits)) in

@@ -31,7 +31,8 @@ count-requires-clause-taken c =
     let below = (tally_below c.args.intake.now.edits old.done c.loop-edit.pulled old.counted).taken in
     let more : length c.args.edits.items ≡ length (old.done ++ c.loop-edit.edit-iterator.rest.items) = ap length old.whole in
     let sum = length-append old.done c.loop-edit.edit-iterator.rest.items in
-    let next : length c.loop-edit.edit-iterator.rest.items ≡ length (c.in-Some.edit ∷ c.next.new.self.rest.items) = ap length c.in-Some.ensures.steps.0 in
+    let next : length c.loop-edit.edit-iterator.rest.items ≡ length (c.in-Some.edit ∷ c.next.new.self.rest.items) =
+        ap length c.in-Some.ensures.steps.0 in
     let ok = c.args.edits.ok in
     let small = c.args.edits.small in
     omega (arith, ok, small)
@@ -42,7 +43,8 @@ count-requires-clause-held c =
     let below = (tally_below c.args.intake.now.edits old.done c.loop-edit.pulled old.counted).held in
     let more : length c.args.edits.items ≡ length (old.done ++ c.loop-edit.edit-iterator.rest.items) = ap length old.whole in
     let sum = length-append old.done c.loop-edit.edit-iterator.rest.items in
-    let next : length c.loop-edit.edit-iterator.rest.items ≡ length (c.in-Some.edit ∷ c.next.new.self.rest.items) = ap length c.in-Some.ensures.steps.0 in
+    let next : length c.loop-edit.edit-iterator.rest.items ≡ length (c.in-Some.edit ∷ c.next.new.self.rest.items) =
+        ap length c.in-Some.ensures.steps.0 in
     let ok = c.args.edits.ok in
     let small = c.args.edits.small in
     omega (arith, ok, small)
@@ -53,7 +55,8 @@ count-requires-clause-known c =
     let below = (tally_below c.args.intake.now.edits old.done c.loop-edit.pulled old.counted).known in
     let more : length c.args.edits.items ≡ length (old.done ++ c.loop-edit.edit-iterator.rest.items) = ap length old.whole in
     let sum = length-append old.done c.loop-edit.edit-iterator.rest.items in
-    let next : length c.loop-edit.edit-iterator.rest.items ≡ length (c.in-Some.edit ∷ c.next.new.self.rest.items) = ap length c.in-Some.ensures.steps.0 in
+    let next : length c.loop-edit.edit-iterator.rest.items ≡ length (c.in-Some.edit ∷ c.next.new.self.rest.items) =
+        ap length c.in-Some.ensures.steps.0 in
     let ok = c.args.edits.ok in
     let small = c.args.edits.small in
     omega (arith, ok, small)

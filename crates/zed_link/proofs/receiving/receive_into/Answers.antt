@@ -86,16 +86,20 @@ loop-reads-preserved g c =
     }
 
 pub returns-in_err-count-clause-reads : goal.returns-in_err-count-clause-reads
-returns-in_err-count-clause-reads g c = one_within c.loop-reads.reads most_reads _ _ _ c.loop-reads-test.true c.loop-reads.invariant.going.made c.in_err-count.ensures.reads
+returns-in_err-count-clause-reads g c =
+    one_within c.loop-reads.reads most_reads _ _ _ c.loop-reads-test.true c.loop-reads.invariant.going.made c.in_err-count.ensures.reads
 
 pub returns-in_err-finish-clause-reads : goal.returns-in_err-finish-clause-reads
-returns-in_err-finish-clause-reads g c = one_within c.loop-reads.reads most_reads _ _ _ c.loop-reads-test.true c.loop-reads.invariant.going.made c.in_ok-count.ensures.reads
+returns-in_err-finish-clause-reads g c =
+    one_within c.loop-reads.reads most_reads _ _ _ c.loop-reads-test.true c.loop-reads.invariant.going.made c.in_ok-count.ensures.reads
 
 pub returns-then-count-eq0-clause-reads : goal.returns-then-count-eq0-clause-reads
-returns-then-count-eq0-clause-reads g c = one_within c.loop-reads.reads most_reads _ _ _ c.loop-reads-test.true c.loop-reads.invariant.going.made c.in_ok-count.ensures.reads
+returns-then-count-eq0-clause-reads g c =
+    one_within c.loop-reads.reads most_reads _ _ _ c.loop-reads-test.true c.loop-reads.invariant.going.made c.in_ok-count.ensures.reads
 
 pub returns-in_err-take_piece-clause-reads : goal.returns-in_err-take_piece-clause-reads
-returns-in_err-take_piece-clause-reads g c = one_within c.loop-reads.reads most_reads _ _ _ c.loop-reads-test.true c.loop-reads.invariant.going.made c.in_ok-count.ensures.reads
+returns-in_err-take_piece-clause-reads g c =
+    one_within c.loop-reads.reads most_reads _ _ _ c.loop-reads-test.true c.loop-reads.invariant.going.made c.in_ok-count.ensures.reads
 
 pub returns-in_err-take_piece-clause-visits : goal.returns-in_err-take_piece-clause-visits
 returns-in_err-take_piece-clause-visits g c = λ other.

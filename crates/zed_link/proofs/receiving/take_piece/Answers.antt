@@ -5,7 +5,8 @@ use Rattle.zed_link.proofs.Feeding.{Taking, nothing_taken, one_passed, more_take
 use Rattle.zed_link.proofs.receiving.take_piece.Goals as goal
 
 pub loop-rest-init : goal.loop-rest-init
-loop-rest-init c = nothing_taken c.args.intake.now c.args.piece.now c.args.reader.now (record { taken = 0; held = 0; known = 0 }) c.requires.calm refl
+loop-rest-init c =
+    nothing_taken c.args.intake.now c.args.piece.now c.args.reader.now (record { taken = 0; held = 0; known = 0 }) c.requires.calm refl
 
 pub count-requires-clause-taken : goal.count-requires-clause-taken
 count-requires-clause-taken c =
@@ -25,12 +26,14 @@ count-requires-clause-known c =
 pub loop-rest-preserved-in-Some : goal.loop-rest-preserved-in-Some
 loop-rest-preserved-in-Some c =
     let k = c.in-Some.ensures.some in
-    let P : Replica → Type 0 = λ m. Taking c.args.intake.now c.args.piece.now c.args.reader.now c.loop-rest.reader c.in-Some.after.now m c.count.new.self in
+    let P : Replica → Type 0 =
+    λ m. Taking c.args.intake.now c.args.piece.now c.args.reader.now c.loop-rest.reader c.in-Some.after.now m c.count.new.self in
     subst P (sym c.in-Some.ensures.kept) (one_passed _ _ _ _ _ _ _ _ _ _ c.count.new.self c.loop-rest.invariant k.2 c.count.ensures)
 
 pub plus-pulled-requires-clause-taken : goal.plus-pulled-requires-clause-taken
 plus-pulled-requires-clause-taken c =
-    let P : Replica → Type 0 = λ m. Taking c.args.intake.now c.args.piece.now c.args.reader.now c.loop-rest.reader c.loop-rest.rest.now m c.loop-rest.pulled in
+    let P : Replica → Type 0 =
+    λ m. Taking c.args.intake.now c.args.piece.now c.args.reader.now c.loop-rest.reader c.loop-rest.rest.now m c.loop-rest.pulled in
     let t = subst P (sym c.pass_known.ensures.kept) c.loop-rest.invariant in
     let k = c.in-Ok.ensures.result in
     let r = room _ _ _ _ _ _ _ _ _ _ _ c.in-Ok.more t c.requires.small c.first.ensures.whole k.1 k.2.2 in
@@ -39,7 +42,8 @@ plus-pulled-requires-clause-taken c =
 
 pub plus-pulled-requires-clause-held : goal.plus-pulled-requires-clause-held
 plus-pulled-requires-clause-held c =
-    let P : Replica → Type 0 = λ m. Taking c.args.intake.now c.args.piece.now c.args.reader.now c.loop-rest.reader c.loop-rest.rest.now m c.loop-rest.pulled in
+    let P : Replica → Type 0 =
+    λ m. Taking c.args.intake.now c.args.piece.now c.args.reader.now c.loop-rest.reader c.loop-rest.rest.now m c.loop-rest.pulled in
     let t = subst P (sym c.pass_known.ensures.kept) c.loop-rest.invariant in
     let k = c.in-Ok.ensures.result in
     let r = room _ _ _ _ _ _ _ _ _ _ _ c.in-Ok.more t c.requires.small c.first.ensures.whole k.1 k.2.2 in
@@ -48,7 +52,8 @@ plus-pulled-requires-clause-held c =
 
 pub plus-pulled-requires-clause-known : goal.plus-pulled-requires-clause-known
 plus-pulled-requires-clause-known c =
-    let P : Replica → Type 0 = λ m. Taking c.args.intake.now c.args.piece.now c.args.reader.now c.loop-rest.reader c.loop-rest.rest.now m c.loop-rest.pulled in
+    let P : Replica → Type 0 =
+    λ m. Taking c.args.intake.now c.args.piece.now c.args.reader.now c.loop-rest.reader c.loop-rest.rest.now m c.loop-rest.pulled in
     let t = subst P (sym c.pass_known.ensures.kept) c.loop-rest.invariant in
     let k = c.in-Ok.ensures.result in
     let r = room _ _ _ _ _ _ _ _ _ _ _ c.in-Ok.more t c.requires.small c.first.ensures.whole k.1 k.2.2 in
@@ -57,7 +62,8 @@ plus-pulled-requires-clause-known c =
 
 pub returns-in-Err-clause-result : goal.returns-in-Err-clause-result
 returns-in-Err-clause-result c =
-    let P : Replica → Type 0 = λ m. Taking c.args.intake.now c.args.piece.now c.args.reader.now c.loop-rest.reader c.loop-rest.rest.now m c.loop-rest.pulled in
+    let P : Replica → Type 0 =
+    λ m. Taking c.args.intake.now c.args.piece.now c.args.reader.now c.loop-rest.reader c.loop-rest.rest.now m c.loop-rest.pulled in
     let t = subst P (sym c.pass_known.ensures.kept) c.loop-rest.invariant in
     let k = c.in-Err.ensures.result in
     let d = c.drain.ensures.feeds in
@@ -65,7 +71,8 @@ returns-in-Err-clause-result c =
 
 pub loop-rest-preserved : goal.loop-rest-preserved
 loop-rest-preserved c =
-    let P : Replica → Type 0 = λ m. Taking c.args.intake.now c.args.piece.now c.args.reader.now c.loop-rest.reader c.loop-rest.rest.now m c.loop-rest.pulled in
+    let P : Replica → Type 0 =
+    λ m. Taking c.args.intake.now c.args.piece.now c.args.reader.now c.loop-rest.reader c.loop-rest.rest.now m c.loop-rest.pulled in
     let t = subst P (sym c.pass_known.ensures.kept) c.loop-rest.invariant in
     let o = c.in-Ok.ensures in
     let k = o.result in

@@ -27,11 +27,14 @@ loop-rest-preserved g c =
     let old = c.loop-rest.invariant in
     let front = take c.in_ok-taken.taken c.loop-rest.rest.now in
     let back = drop c.in_ok-taken.taken c.loop-rest.rest.now in
-    let some : 0 < length front = rw (length-take-le c.in_ok-taken.taken c.loop-rest.rest.now c.in_ok-taken.ensures.within.1) c.in_ok-taken.ensures.within.0 in
+    let some : 0 < length front =
+    rw (length-take-le c.in_ok-taken.taken c.loop-rest.rest.now c.in_ok-taken.ensures.within.1) c.in_ok-taken.ensures.within.0 in
     let both : front ++ back ≡ c.loop-rest.rest.now = take-append-drop c.in_ok-taken.taken c.loop-rest.rest.now in
     record {
       done = old.done ++ front;
-      whole = old.whole ∙ ap (λ z. old.done ++ z) (sym both) ∙ sym (append_assoc old.done front back) ∙ ap (λ z. (old.done ++ front) ++ z) (sym c.split_at.ensures.back);
+      whole =
+          old.whole ∙ ap (λ z. old.done ++ z) (sym both) ∙ sym (append_assoc old.done front back)
+          ∙ ap (λ z. (old.done ++ front) ++ z) (sym c.split_at.ensures.back);
       took = took_more old.done front _ _ _ old.took c.in_ok-taken.ensures.ok;
       calm = c.in_ok-taken.ensures.calm.0 ∙ old.calm;
       flowing = c.in_ok-taken.ensures.calm.1 ∙ old.flowing;

@@ -7,5 +7,6 @@ use Rattle.zed_lint.proofs.linting.note_boards.Goals as goal
 pub returns-in_err-note_board-clause-memory_only_when : goal.returns-in_err-note_board-clause-memory_only_when
 returns-in_err-note_board-clause-memory_only_when c =
     let p = err_from_is_err_and c.from_residual.result c.from_residual.ensures.1 in
-    let is : get_or c.args.boards.now c.loop-number.number c.index-boards-number.result ≡ c.index-boards-number.result = cc (c.index-boards-number.is) in
+    let is : get_or c.args.boards.now c.loop-number.number c.index-boards-number.result ≡ c.index-boards-number.result =
+    cc (c.index-boards-number.is) in
     rw p.1 (member board_findings c.loop-number.number c.args.boards.now c.index-boards-number.result c.loop-number-test.true is c.in_err-note_board.ensures.memory_only_when)

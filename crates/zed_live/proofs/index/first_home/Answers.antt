@@ -12,5 +12,7 @@ loop-home-init c =
     let all : boards_here x c.range-home-items.result ≡ boards_with x homes =
     ap (boards_here x) (c.range-home-items.ensures.between tt) ∙ from_range x homes c.range-home-items.ensures.ordered in
     record {
-      left = ap (λ ws. find (is_on x ys) (boards_here x ws)) same ∙ ap (find (is_on x ys)) all ∙ found_home x homes ys (sorted_boards x homes c.range-home-items.ensures.ordered) c.requires;
+      left =
+          ap (λ ws. find (is_on x ys) (boards_here x ws)) same ∙ ap (find (is_on x ys)) all
+          ∙ found_home x homes ys (sorted_boards x homes c.range-home-items.ensures.ordered) c.requires;
     }

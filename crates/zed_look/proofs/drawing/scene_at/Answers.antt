@@ -4,4 +4,5 @@ use Rattle.zed_look.proofs.drawing.scene_at.Goals as goal
 
 pub returns : goal.returns
 unfolding scene_at
-returns c = rw (c.in_play.ensures, c.tile.ensures.result, c.scene_spot-spot.ensures, c.scene_pose-pose.ensures, c.place_of-place.ensures) refl
+returns c =
+    rw (c.in_play.ensures, c.tile.ensures.result, c.scene_spot-spot.ensures, c.scene_pose-pose.ensures, c.place_of-place.ensures) refl

@@ -19,7 +19,8 @@ pub returns-clause-ends : goal.returns-clause-ends
 returns-clause-ends g c = λ t at.
     let here = c.in_ok-bytes.ensures.kept ∙ at in
     let line : c.as_str.result.now ≡ edits_line 1 = c.as_str.ensures.value ∙ c.in_ok-line.ensures in
-    let text : c.as_slice.result.now ≡ file_text c.args.world (genesis_of c.in_ok-bytes.bytes.items ∷ []) = c.as_slice.ensures.value ∙ c.in_ok-file.ensures.ok in
+    let text : c.as_slice.result.now ≡ file_text c.args.world (genesis_of c.in_ok-bytes.bytes.items ∷ []) =
+    c.as_slice.ensures.value ∙ c.in_ok-file.ensures.ok in
     let comes : ComesToNew _ t c.args.out.now c.args.world (text_in c.args.from) (text_in c.args.name) (Ok (Writes c.args.out.now c.as_slice.result.now c.as_str.result.now)) =
     (Ok c.in_ok-bytes.bytes.items, c.in_ok-bytes.ensures.result t at, rw (line, text) refl) in
     effect_ends (λ f. ComesToNew f t c.args.out.now c.args.world (text_in c.args.from) (text_in c.args.name)) c.write_out.result _ _ _ t (Writes c.args.out.now c.as_slice.result.now c.as_str.result.now) _

@@ -15,7 +15,8 @@ use Rattle.zed_making.proofs.writing.write_document.Goals as goal
 pub returns-clause-ends : goal.returns-clause-ends
 returns-clause-ends g c = λ t at.
     let d = c.args.document.now in
-    let text : c.as_slice.result.now ≡ file_text d.world d.edits = c.as_slice.ensures.value ∙ c.in_ok-text.ensures.ok ∙ ap₂ file_text c.world.ensures c.edits.ensures.all in
+    let text : c.as_slice.result.now ≡ file_text d.world d.edits =
+    c.as_slice.ensures.value ∙ c.in_ok-text.ensures.ok ∙ ap₂ file_text c.world.ensures c.edits.ensures.all in
     let written : List ℕ → Result Effect Refusal = λ bytes. Ok (Writes c.args.out.now bytes c.args.line.now) in
     let same : g.H.Host.faults c.args.host.now ≤ g.H.Host.faults c.args.host.now = omega arith in
     effect_ends (λ f r. r ≡ written (file_text d.world d.edits)) c.write_out.result _ _ _ t (Writes c.args.out.now c.as_slice.result.now c.args.line.now) _

@@ -29,4 +29,5 @@ returns-in_err-begun-clause-screen_faults g c =
     screen_uncounted c.from_residual.result _ _ (off_on c.from_residual.result c.in_err-begun.field-0.0 c.from_residual.ensures.1 c.in_err-begun.ensures.off) refl
 
 pub returns-in_err-begun-clause-other : goal.returns-in_err-begun-clause-other
-returns-in_err-begun-clause-other g c = other_on c.from_residual.result c.in_err-begun.field-0.0 c.from_residual.ensures.1 c.in_err-begun.ensures.other
+returns-in_err-begun-clause-other g c =
+    other_on c.from_residual.result c.in_err-begun.field-0.0 c.from_residual.ensures.1 c.in_err-begun.ensures.other

@@ -34,7 +34,8 @@ returns-in_err-keep-clause-failures g c =
     handed_on g.H.Host.faults g.H.Host.failed c.from_residual.result c.in_err-keep.field-0.0 _ _ c.from_residual.ensures.1 c.in_err-keep.ensures.failures
 
 pub returns-clause-failures : goal.returns-clause-failures
-returns-clause-failures g c = tells_later g.H.Host.faults g.H.Host.failed c.keep-2.result _ _ _ c.in_ok-keep.ensures.failures.0 c.keep-2.ensures.failures
+returns-clause-failures g c =
+    tells_later g.H.Host.faults g.H.Host.failed c.keep-2.result _ _ _ c.in_ok-keep.ensures.failures.0 c.keep-2.ensures.failures
 
 pub returns-clause-err : goal.returns-clause-err
 returns-clause-err g c = refuses_later _ c.keep-2.result _ _ _ c.in_ok-keep.ensures.failures.0.0 c.keep-2.ensures.err

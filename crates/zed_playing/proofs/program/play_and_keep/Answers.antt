@@ -59,7 +59,8 @@ returns-in_err-keep_all-clause-ends g c = λ t at.
     let first = c.in_ok-kept.ensures.failures.0.0 in
     let second = c.in_ok-tape.ensures.failures.0.0 in
     let third = c.in_err-keep_all.ensures.failures.0.0 in
-    let played = performed_so _ _ t c.args.going c.args.board c.args.rows _ _ (texts_of c.args.files.now) _ _ _ (Ok (point c.in_ok-tape.tape))
+    let played =
+    performed_so _ _ t c.args.going c.args.board c.args.rows _ _ (texts_of c.args.files.now) _ _ _ (Ok (point c.in_ok-tape.tape))
     (rose_within (g.H.Host.faults c.args.host.now) (g.H.Host.faults c.read_kept.new.host) (g.H.Host.faults c.perform.new.host) (g.H.Host.faults c.keep_all.new.host) first third)
     read.0 begins (c.in_ok-tape.ensures.performed t here) in
     rw (p.1, same) (unkept_ends _ t _ _ (point c.in_ok-tape.tape) c.in_err-keep_all.field-0.0 _ _ there played

@@ -30,7 +30,8 @@ loop-i-preserved g c =
     record {
       pulling = pulling_goes_on _ c.loop-i.intake c.pull_over.new.intake _ _ _ _ c.loop-i.i _ c.pull_over.new.link c.in_ok-pull_over.field-0 old.pulling c.loop-i-test.true within
           c.index_mut.ensures.value c.in_ok-pull_over.ensures.world (c.in_ok-pull_over.ensures.sound ∙ sym old.sound) c.in_ok-pull_over.ensures.pull;
-      unwritten = shown_same _ _ c.loop-i.i _ c.pull_over.new.link c.index_mut.ensures.value c.in_ok-pull_over.ensures.writes ∙ old.unwritten;
+      unwritten =
+          shown_same _ _ c.loop-i.i _ c.pull_over.new.link c.index_mut.ensures.value c.in_ok-pull_over.ensures.writes ∙ old.unwritten;
       many = length-set _ _ _ ∙ old.many;
       enough = old.enough;
       world = c.in_ok-pull_over.ensures.world ∙ old.world;

@@ -9,7 +9,8 @@ use Rattle.zed_program.proofs.Endings.{merge_as, play_as, pulls_as, show_as, sho
 use Rattle.zed_program.proofs.program.act.Goals as goal
 
 pub returns-in-Save-clause-ends : goal.returns-in-Save-clause-ends
-returns-in-Save-clause-ends g c = λ t at. rw (c.in-Save.is, ← c.limit_of.ensures.result, ← c.as_slice.ensures.value) (c.save.ensures.ends t at, λ is. tt)
+returns-in-Save-clause-ends g c =
+    λ t at. rw (c.in-Save.is, ← c.limit_of.ensures.result, ← c.as_slice.ensures.value) (c.save.ensures.ends t at, λ is. tt)
 
 pub returns-in-Check-clause-ends : goal.returns-in-Check-clause-ends
 returns-in-Check-clause-ends g c = λ t at. rw (c.in-Check.is, ← c.limit_of-in-Check.ensures.result, ← c.as_slice-in-Check.ensures.value) (c.check.ensures.ends t at, λ is. tt)

@@ -23,7 +23,8 @@ returns-clause-saves g c = λ t profile out file files spelled plain at calm.
     let counted = c.count_of-count.ensures in
     let small = c.count_of-count.type_inv in
     omega arith in
-    let asked : command_of (map string_bytes c.args.words.now) ≡ Some (Save profile out (file ∷ files)) = ap command_of spelled ∙ c.plain_words_save.ensures profile out file files plain few in
+    let asked : command_of (map string_bytes c.args.words.now) ≡ Some (Save profile out (file ∷ files)) =
+    ap command_of spelled ∙ c.plain_words_save.ensures profile out file files plain few in
     returns-clause-ends_calmly g c t (Save profile out (file ∷ files)) asked at calm
 
 pub returns-clause-saves_sets : goal.returns-clause-saves_sets

@@ -23,7 +23,8 @@ returns-in-Ok-act-clause-ends g c = λ t at.
     rw c.in-Ok.ensures (inl (done.0, done.1, refl, done.2))
 
 pub returns-in-Ok-clause-asked : goal.returns-in-Ok-clause-asked
-returns-in-Ok-clause-asked g c = rw c.in-Ok.ensures (inr (refl, (c.in-Err-act.refusal, _, c.in-Err-act.ensures.asked, c.complain_of.ensures.asked)))
+returns-in-Ok-clause-asked g c =
+    rw c.in-Ok.ensures (inr (refl, (c.in-Err-act.refusal, _, c.in-Err-act.ensures.asked, c.complain_of.ensures.asked)))
 
 -- which devices were called
 pub returns-in-Ok-act-clause-devices : goal.returns-in-Ok-act-clause-devices
@@ -47,7 +48,8 @@ pub returns-in-Ok-act-clause-screen_faults : goal.returns-in-Ok-act-clause-scree
 returns-in-Ok-act-clause-screen_faults g c = inl (λ is. (let no : 0 ≡ 1 = is in cc), c.in-Ok-act.ensures.screen_faults)
 
 pub returns-in-Ok-clause-screen_faults : goal.returns-in-Ok-clause-screen_faults
-returns-in-Ok-clause-screen_faults g c = inr (refl, (c.in-Err-act.refusal, _, c.complain_of.ensures.asked, c.in-Err-act.ensures.screen_faults))
+returns-in-Ok-clause-screen_faults g c =
+    inr (refl, (c.in-Err-act.refusal, _, c.complain_of.ensures.asked, c.in-Err-act.ensures.screen_faults))
 
 pub returns-in-Ok-act-clause-key_faults : goal.returns-in-Ok-act-clause-key_faults
 returns-in-Ok-act-clause-key_faults g c = inl (λ is. (let no : 0 ≡ 1 = is in cc), c.in-Ok-act.ensures.key_faults)

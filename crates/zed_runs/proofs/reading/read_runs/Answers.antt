@@ -28,9 +28,11 @@ returns-then-end-ge-TILES-clause-result c =
     let t = triple_at rest in
     let three : 3 ≤ length rest = rw take_rest at c.in-len3-up.len_at_least in
     let count : c.tiles_of.result ≡ tiles_of_count t.count = rw take_rest at c.tiles_of.ensures in
-    let written : c.fill.new.self ≡ replicate (length (take (1500 - filled) (drop filled tiles))) t.tile = rw take_rest at (c.fill.ensures.after (λ y h. search rules)) in
+    let written : c.fill.new.self ≡ replicate (length (take (1500 - filled) (drop filled tiles))) t.tile =
+    rw take_rest at (c.fill.ensures.after (λ y h. search rules)) in
     let long : length tiles ≡ 1500 = c.if-end-ge-TILES.array_long in
-    let room : length (take (1500 - filled) (drop filled tiles)) ≡ 1500 - filled = omega (arith, length-take (1500 - filled) (drop filled tiles), length-drop filled tiles) in
+    let room : length (take (1500 - filled) (drop filled tiles)) ≡ 1500 - filled =
+    omega (arith, length-take (1500 - filled) (drop filled tiles), length-drop filled tiles) in
     filled_up (take (c.loop-used.used + 3) bytes) tiles c.fill.new.self (drop (1500 - filled) (drop filled tiles)) filled i.triples.0 t long i.open_yet
     (text_more bytes c.loop-used.used i.triples.0 three i.triples.1) i.triples.2
     (omega (arith, c.if-end-ge-TILES.true)) (written ∙ ap (λ (k : ℕ). replicate k t.tile) room)
@@ -47,10 +49,12 @@ loop-used-preserved c =
     let t = triple_at rest in
     let three : 3 ≤ length rest = rw take_rest at c.in-len3-up.len_at_least in
     let count : n ≡ tiles_of_count t.count = rw take_rest at c.tiles_of.ensures in
-    let written : c.fill-in-loop-used.new.self ≡ replicate (length (take (filled + n - filled) (drop filled tiles))) t.tile = rw take_rest at (c.fill-in-loop-used.ensures.after (λ y h. search rules)) in
+    let written : c.fill-in-loop-used.new.self ≡ replicate (length (take (filled + n - filled) (drop filled tiles))) t.tile =
+    rw take_rest at (c.fill-in-loop-used.ensures.after (λ y h. search rules)) in
     let long : length tiles ≡ 1500 = c.if-end-ge-TILES.array_long in
     let below : filled + n < 1500 = c.if-end-ge-TILES.false in
-    let room : length (take (filled + n - filled) (drop filled tiles)) ≡ n = omega (arith, length-take (filled + n - filled) (drop filled tiles), length-drop filled tiles) in
+    let room : length (take (filled + n - filled) (drop filled tiles)) ≡ n =
+    omega (arith, length-take (filled + n - filled) (drop filled tiles), length-drop filled tiles) in
     let part : c.fill-in-loop-used.new.self ≡ run t = written ∙ ap (λ (k : ℕ). replicate k t.tile) (room ∙ count) in
     let after : take (filled + n) (put_mid filled (filled + n - filled) tiles c.fill-in-loop-used.new.self) ≡ take filled tiles ++ c.fill-in-loop-used.new.self
     = take-put_mid filled (filled + n - filled) tiles c.fill-in-loop-used.new.self (filled + n) (omega (arith, ap length part, length-replicate (tiles_of_count t.count) t.tile)) (omega arith) in
@@ -66,7 +70,8 @@ loop-used-preserved c =
 
 pub returns-in_default-clause-reads : goal.returns-in_default-clause-reads
 returns-in_default-clause-reads c = λ tiles front rest r e.
-    let cut : front ≡ take (length front) c.args.bytes.now = sym (ap (λ (x : List ℕ). take (length front) x) e ∙ take_at front rest (length front) refl) in
+    let cut : front ≡ take (length front) c.args.bytes.now =
+    sym (ap (λ (x : List ℕ). take (length front) x) e ∙ take_at front rest (length front) refl) in
     absurd (returns-in_default-clause-none c tiles (length front) (subst (λ (x : List ℕ). Runs tiles x) cut r))
 
 pub returns-then-end-ge-TILES-clause-reads : goal.returns-then-end-ge-TILES-clause-reads

@@ -12,11 +12,13 @@ loop-tile-preserved c =
     let n = c.run_len-len.result in
     let step = greedy_step rest n t c.in-Some.ensures.value run.longest run.same run.stops in
     let some : 1 ≤ n = some_tile rest n t c.in-Some.ensures.value run.stops in
-    let counted : (c.loop-tile.bytes + 3) + length (greedy (drop n rest)) ≡ length (greedy c.args.tiles.now) = omega (arith, ap length step, c.loop-tile.invariant.counted) in
+    let counted : (c.loop-tile.bytes + 3) + length (greedy (drop n rest)) ≡ length (greedy c.args.tiles.now) =
+    omega (arith, ap length step, c.loop-tile.invariant.counted) in
     record {
       counted = rw take_rest counted;
       within = rw take_rest (omega (arith, length-drop n rest, c.loop-tile.invariant.within));
     }
 
 pub returns-clause-result : goal.returns-clause-result
-returns-clause-result c = omega (arith, ap length (greedy_end c.loop-tile.rest.now c.in_default.ensures.value), c.loop-tile.invariant.counted)
+returns-clause-result c =
+    omega (arith, ap length (greedy_end c.loop-tile.rest.now c.in_default.ensures.value), c.loop-tile.invariant.counted)

@@ -6,7 +6,8 @@ use Rattle.zed_script.proofs.conditions.condition.Goals as goal
 
 pub loop-test-smaller : goal.loop-test-smaller
 loop-test-smaller c =
-    let moves : c.loop-test.to < c.in_ok-test.end = not_moves c.args.program.now c.loop-test.to c.in_ok-test.test c.in_ok-test.end c.in_ok-test.ensures.result c.in-None.is in
+    let moves : c.loop-test.to < c.in_ok-test.end =
+    not_moves c.args.program.now c.loop-test.to c.in_ok-test.test c.in_ok-test.end c.in_ok-test.ensures.result c.in-None.is in
     let within = c.in_ok-test.ensures.within in
     omega arith
 

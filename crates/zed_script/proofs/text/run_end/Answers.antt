@@ -14,4 +14,5 @@ returns-else-is_of-clause-result c =
     sym (run_stops c.args.class c.args.program.now c.loop-to.to (omega arith) (search rules)) ∙ c.loop-to.invariant.same
 
 pub returns-after-loop-to-clause-result : goal.returns-after-loop-to-clause-result
-returns-after-loop-to-clause-result c = sym (run_at_end c.args.class c.args.program.now c.loop-to.to (omega arith)) ∙ c.loop-to.invariant.same
+returns-after-loop-to-clause-result c =
+    sym (run_at_end c.args.class c.args.program.now c.loop-to.to (omega arith)) ∙ c.loop-to.invariant.same

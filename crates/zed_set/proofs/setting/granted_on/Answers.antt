@@ -8,4 +8,5 @@ returns-in_err-grant c =
     rw p.1 (wish_refused c.args.replica c.args.wish c.args.document c.in_err-grant.field-0.0 p.0 c.grant.result c.requires c.in_err-grant.was p.2 c.in_err-grant.ensures.ends c.grant.ensures.memory_only_when)
 
 pub returns : goal.returns
-returns c = wish_done c.args.replica c.args.wish c.args.document c.grant.new.document c.requires c.grant.ensures.world c.in_ok-grant.ensures.ends
+returns c =
+    wish_done c.args.replica c.args.wish c.args.document c.grant.new.document c.requires c.grant.ensures.world c.in_ok-grant.ensures.ends

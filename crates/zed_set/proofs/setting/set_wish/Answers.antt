@@ -19,9 +19,11 @@ use Rattle.zed_set.proofs.setting.set_wish.Goals as goal
 pub returns-clause-ends : goal.returns-clause-ends
 returns-clause-ends g c = λ t at.
     let d = c.in_ok-document.document in
-    let line : c.as_str.result.now ≡ edits_line (length d.edits) = c.as_str.ensures.value ∙ c.in_ok-line.ensures ∙ ap (λ es. edits_line (length es)) c.edits.ensures.all in
+    let line : c.as_str.result.now ≡ edits_line (length d.edits) =
+    c.as_str.ensures.value ∙ c.in_ok-line.ensures ∙ ap (λ es. edits_line (length es)) c.edits.ensures.all in
     let effect : Effect = Writes c.args.file.now (file_text d.world d.edits) c.as_str.result.now in
-    let comes : ComesToSet _ t c.args.file.now c.args.replica c.args.wish (Ok effect) = (Ok (d.world, d.edits), c.in_ok-document.ensures.granted t at, rw line refl) in
+    let comes : ComesToSet _ t c.args.file.now c.args.replica c.args.wish (Ok effect) =
+    (Ok (d.world, d.edits), c.in_ok-document.ensures.granted t at, rw line refl) in
     written_ends (λ f. ComesToSet f t c.args.file.now c.args.replica c.args.wish) c.write_document.result _ _ _ t effect _
     (set_so t c.args.file.now c.args.replica c.args.wish)
     c.in_ok-document.ensures.failures.0.0 c.write_document.ensures.failures.0.0 comes (c.write_document.ensures.ends t (c.in_ok-document.ensures.kept ∙ at))

@@ -12,4 +12,5 @@ pub returns-in-Some-clause-over : goal.returns-in-Some-clause-over
 returns-in-Some-clause-over c = told_over c.args.world.now c.in-Err.error c.in-Some.over c.in-Err.ensures.result (sym c.in-Some.ensures)
 
 pub returns-in-None-clause-fits : goal.returns-in-None-clause-fits
-returns-in-None-clause-fits c = told_none c.args.world.now c.in-Err.error c.in-Err.ensures.result c.in-Err.ensures.memory_only_when (sym c.in-None.ensures)
+returns-in-None-clause-fits c =
+    told_none c.args.world.now c.in-Err.error c.in-Err.ensures.result c.in-Err.ensures.memory_only_when (sym c.in-None.ensures)

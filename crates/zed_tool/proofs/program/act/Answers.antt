@@ -13,7 +13,8 @@ returns-in-Open-clause-asked g c =
     rw c.in-Open.is (c.open.result, rw c.forcing_of.ensures at asked, c.drawn.ensures)
 
 pub returns-in-Open-clause-failures : goal.returns-in-Open-clause-failures
-returns-in-Open-clause-failures g c = drawn_tells g.H.Host.faults g.H.Host.failed c.in-Open.file.now c.open.result _ _ _ c.drawn.ensures c.open.ensures.failures
+returns-in-Open-clause-failures g c =
+    drawn_tells g.H.Host.faults g.H.Host.failed c.in-Open.file.now c.open.result _ _ _ c.drawn.ensures c.open.ensures.failures
 
 pub returns-in-Take-clause-ends : goal.returns-in-Take-clause-ends
 returns-in-Take-clause-ends g c = λ t at. rw c.in-Take.is (c.take.result, c.take.ensures.ends t at, c.drawn-in-Take.ensures)
@@ -22,7 +23,8 @@ pub returns-in-Take-clause-asked : goal.returns-in-Take-clause-asked
 returns-in-Take-clause-asked g c = rw c.in-Take.is (c.take.result, c.take.ensures.asked, c.drawn-in-Take.ensures)
 
 pub returns-in-Take-clause-failures : goal.returns-in-Take-clause-failures
-returns-in-Take-clause-failures g c = drawn_tells g.H.Host.faults g.H.Host.failed c.in-Take.file.now c.take.result _ _ _ c.drawn-in-Take.ensures c.take.ensures.failures
+returns-in-Take-clause-failures g c =
+    drawn_tells g.H.Host.faults g.H.Host.failed c.in-Take.file.now c.take.result _ _ _ c.drawn-in-Take.ensures c.take.ensures.failures
 
 pub returns-in-Log-clause-ends : goal.returns-in-Log-clause-ends
 returns-in-Log-clause-ends g c = λ t at.
@@ -48,7 +50,8 @@ returns-in-List-clause-asked g c =
     rw c.in-List.is (c.list.result, rw c.as_slice-in-List.ensures.value at asked, c.told-in-List.ensures)
 
 pub returns-in-List-clause-failures : goal.returns-in-List-clause-failures
-returns-in-List-clause-failures g c = told_tells g.H.Host.faults g.H.Host.failed c.list.result _ _ _ c.told-in-List.ensures c.list.ensures.failures
+returns-in-List-clause-failures g c =
+    told_tells g.H.Host.faults g.H.Host.failed c.list.result _ _ _ c.told-in-List.ensures c.list.ensures.failures
 
 pub returns-in-Show-clause-ends : goal.returns-in-Show-clause-ends
 returns-in-Show-clause-ends g c = λ t at.
@@ -61,7 +64,8 @@ returns-in-Show-clause-asked g c =
     rw c.in-Show.is (c.show.result, rw c.as_slice-in-Show.ensures.value at asked, c.told-in-Show.ensures)
 
 pub returns-in-Show-clause-failures : goal.returns-in-Show-clause-failures
-returns-in-Show-clause-failures g c = told_tells g.H.Host.faults g.H.Host.failed c.show.result _ _ _ c.told-in-Show.ensures c.show.ensures.failures
+returns-in-Show-clause-failures g c =
+    told_tells g.H.Host.faults g.H.Host.failed c.show.result _ _ _ c.told-in-Show.ensures c.show.ensures.failures
 
 pub returns-in-Play-clause-ends : goal.returns-in-Play-clause-ends
 returns-in-Play-clause-ends g c = λ t at.
@@ -74,7 +78,8 @@ returns-in-Play-clause-asked g c =
     rw c.in-Play.is (c.play.result, rw c.as_slice-in-Play.ensures.value at asked, c.told-in-Play.ensures)
 
 pub returns-in-Play-clause-failures : goal.returns-in-Play-clause-failures
-returns-in-Play-clause-failures g c = told_tells g.H.Host.faults g.H.Host.failed c.play.result _ _ _ c.told-in-Play.ensures c.play.ensures.failures
+returns-in-Play-clause-failures g c =
+    told_tells g.H.Host.faults g.H.Host.failed c.play.result _ _ _ c.told-in-Play.ensures c.play.ensures.failures
 
 pub returns-in-Lint-clause-ends : goal.returns-in-Lint-clause-ends
 returns-in-Lint-clause-ends g c = λ t at.
@@ -87,7 +92,8 @@ returns-in-Lint-clause-asked g c =
     rw c.in-Lint.is (c.lint.result, rw c.as_slice-in-Lint.ensures.value at asked, c.linted.ensures)
 
 pub returns-in-Lint-clause-failures : goal.returns-in-Lint-clause-failures
-returns-in-Lint-clause-failures g c = linted_tells g.H.Host.faults g.H.Host.failed c.in-Lint.strictness c.lint.result _ _ _ c.linted.ensures c.lint.ensures.failures
+returns-in-Lint-clause-failures g c =
+    linted_tells g.H.Host.faults g.H.Host.failed c.in-Lint.strictness c.lint.result _ _ _ c.linted.ensures c.lint.ensures.failures
 
 pub returns-in-Set-clause-ends : goal.returns-in-Set-clause-ends
 returns-in-Set-clause-ends g c = λ t at.
@@ -123,13 +129,16 @@ returns-in-Program-clause-asked g c =
     rw c.in-Program.is (c.program.result, rw c.as_slice-in-Program.ensures.value at asked, c.told-in-Program.ensures)
 
 pub returns-in-Program-clause-failures : goal.returns-in-Program-clause-failures
-returns-in-Program-clause-failures g c = told_tells g.H.Host.faults g.H.Host.failed c.program.result _ _ _ c.told-in-Program.ensures c.program.ensures.failures
+returns-in-Program-clause-failures g c =
+    told_tells g.H.Host.faults g.H.Host.failed c.program.result _ _ _ c.told-in-Program.ensures c.program.ensures.failures
 
 pub returns-in-SetProgram-clause-ends : goal.returns-in-SetProgram-clause-ends
-returns-in-SetProgram-clause-ends g c = λ t at. rw c.in-SetProgram.is (c.set_program.result, c.set_program.ensures.ends t at, c.drawn-in-SetProgram.ensures)
+returns-in-SetProgram-clause-ends g c =
+    λ t at. rw c.in-SetProgram.is (c.set_program.result, c.set_program.ensures.ends t at, c.drawn-in-SetProgram.ensures)
 
 pub returns-in-SetProgram-clause-asked : goal.returns-in-SetProgram-clause-asked
-returns-in-SetProgram-clause-asked g c = rw c.in-SetProgram.is (c.set_program.result, c.set_program.ensures.asked, c.drawn-in-SetProgram.ensures)
+returns-in-SetProgram-clause-asked g c =
+    rw c.in-SetProgram.is (c.set_program.result, c.set_program.ensures.asked, c.drawn-in-SetProgram.ensures)
 
 pub returns-in-SetProgram-clause-failures : goal.returns-in-SetProgram-clause-failures
 returns-in-SetProgram-clause-failures g c = drawn_tells g.H.Host.faults g.H.Host.failed c.in-SetProgram.text.now c.set_program.result _ _ _ c.drawn-in-SetProgram.ensures c.set_program.ensures.failures

@@ -8,13 +8,16 @@ pub returns-clause-boards : goal.returns-clause-boards
 returns-clause-boards c number file files board is plain few = play_words OverBoards number file files board tt is plain few
 
 pub returns-clause-rows : goal.returns-clause-rows
-returns-clause-rows c word rows writes number file files board is plain few = play_words (InRows word rows) number file files board writes is plain few
+returns-clause-rows c word rows writes number file files board is plain few =
+    play_words (InRows word rows) number file files board writes is plain few
 
 pub returns-clause-words : goal.returns-clause-words
-returns-clause-words c words writes number file files board is plain few = play_words (ByWords words) number file files board writes is plain few
+returns-clause-words c words writes number file files board is plain few =
+    play_words (ByWords words) number file files board writes is plain few
 
 pub returns-clause-keys : goal.returns-clause-keys
-returns-clause-keys c keys writes number file files board is plain few = play_words (ByKeys keys) number file files board writes is plain few
+returns-clause-keys c keys writes number file files board is plain few =
+    play_words (ByKeys keys) number file files board writes is plain few
 
 pub returns-clause-kept : goal.returns-clause-kept
 returns-clause-kept c going word words keys rows is_rows is_words is_keys number file files board is plain few =

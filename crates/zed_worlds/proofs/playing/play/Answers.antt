@@ -95,7 +95,9 @@ returns-in_err-text-clause-screen_faults g c =
     screen_told c.from_residual.result c.in_err-text.field-0.0 _ _ c.from_residual.ensures.1 c.in_err-text.ensures.screen_faults
 
 pub returns-clause-key_faults : goal.returns-clause-key_faults
-returns-clause-key_faults g c = keys_uncounted c.print_out.result _ _ (written_off c.print_out.result c.print_out.ensures.err) c.in_ok-text.ensures.key_faults
+returns-clause-key_faults g c =
+    keys_uncounted c.print_out.result _ _ (written_off c.print_out.result c.print_out.ensures.err) c.in_ok-text.ensures.key_faults
 
 pub returns-clause-screen_faults : goal.returns-clause-screen_faults
-returns-clause-screen_faults g c = screen_uncounted c.print_out.result _ _ (written_off c.print_out.result c.print_out.ensures.err) c.in_ok-text.ensures.screen_faults
+returns-clause-screen_faults g c =
+    screen_uncounted c.print_out.result _ _ (written_off c.print_out.result c.print_out.ensures.err) c.in_ok-text.ensures.screen_faults

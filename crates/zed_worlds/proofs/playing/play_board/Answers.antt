@@ -84,7 +84,8 @@ returns-in_default-used-clause-plays g c =
     let old = c.loop.invariant in
     let stays = no_key c.loop.counter c.loop.left.now _ _ _ after old.now old.at old.going (rw c.in_default-used.is at c.in_ok-used.ensures.result) c.in_ok-used.ensures.key_foretold
     (rw c.in_default-used.is at c.in_ok-used.ensures.screen_foretold) (rw c.in_default-used.is at c.in_ok-used.ensures.shown) c.loop-test.true in
-    let play : c.in-Some.play.now ≡ old.now.play = lent_is (λ p. p.now) c.in-Some.play c.playtest.result _ old.now.play c.playtest.ensures.result c.in-Some.is stays.0 in
+    let play : c.in-Some.play.now ≡ old.now.play =
+    lent_is (λ p. p.now) c.in-Some.play c.playtest.result _ old.now.play c.playtest.ensures.result c.in-Some.is stays.0 in
     let text : c.in_ok-told.field-0.items ≡ told_of old.now.play = c.in_ok-told.ensures ∙ ap told_of play in
     old.comes after (Ok c.in_ok-told.field-0.items)
     (c.loop.counter, old.now, old.few, none_more c.loop.counter old.first old.now old.leads, inl (ap (λ t. Ok t) text, stays.1))
@@ -213,7 +214,8 @@ pub returns-in_err-told-clause-idle : goal.returns-in_err-told-clause-idle
 returns-in_err-told-clause-idle g c = of_playing c.from_residual-in_err-told.result Memory _ c.from_residual-in_err-told.ensures.1 refl
 
 pub returns-in_err-told-2-clause-idle : goal.returns-in_err-told-2-clause-idle
-returns-in_err-told-2-clause-idle g c = of_playing c.from_residual-in_err-told-2.result Memory _ c.from_residual-in_err-told-2.ensures.1 refl
+returns-in_err-told-2-clause-idle g c =
+    of_playing c.from_residual-in_err-told-2.result Memory _ c.from_residual-in_err-told-2.ensures.1 refl
 
 -- ---- faults of screen and keys
 

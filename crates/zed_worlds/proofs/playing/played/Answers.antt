@@ -53,7 +53,8 @@ returns-clause-played g c = λ t at.
     ((goal.Keys-dyn g c.args.keys.now).left c.play_board.new.keys)
     ((goal.Keys-dyn g c.args.keys.now).keys_foretell c.play_board.new.keys) in
     let here = c.in_ok-bytes.ensures.kept ∙ at in
-    let words : c.as_slice-2.result.now ≡ chances_in c.in_ok-bytes.bytes.items = c.as_slice-2.ensures.value ∙ rw c.as_slice.ensures.value at c.in_ok-words.ensures in
+    let words : c.as_slice-2.result.now ≡ chances_in c.in_ok-bytes.bytes.items =
+    c.as_slice-2.ensures.value ∙ rw c.as_slice.ensures.value at c.in_ok-words.ensures in
     played_result _ old new c.args.limit c.play_board.result t c.from.result c.args.board c.args.chance.now c.in_ok-bytes.bytes.items c.as_slice-2.result.now (texts_of c.args.files.now)
     c.in_ok-document.document.edits c.from.ensures words (c.in_ok-bytes.ensures.bytes t at) (rw c.in_ok-bytes.ensures.calm at (c.in_ok-document.ensures.collected t here)) c.play_board.ensures.plays
 

@@ -46,4 +46,5 @@ returns-in_err-document-clause-err g c =
     off_on c.from_residual.result c.in_err-document.field-0.0 c.from_residual.ensures.1 c.in_err-document.ensures.err
 
 pub returns-clause-err : goal.returns-clause-err
-returns-clause-err g c = made_off _ _ c.export_as.result c.export_as.ensures.made (exported_off c.args.form c.args.limit c.in_ok-document.document.edits)
+returns-clause-err g c =
+    made_off _ _ c.export_as.result c.export_as.ensures.made (exported_off c.args.form c.args.limit c.in_ok-document.document.edits)

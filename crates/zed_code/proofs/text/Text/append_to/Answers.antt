@@ -21,13 +21,15 @@ push_live-requires-clause-each c =
     let bs = c.deref-block-items.result.now in
     let b = c.block-item.result in
     let each : AllByRecursion (IsRun store) (joined (lists bs)) = let P : List Block → Type 0 = λ cs. AllByRecursion (IsRun store) (joined (lists cs)) in subst P (sym c.deref-block-items.ensures.value) c.self.invariant.kept.each in
-    let here : list_at c.loop-block.block-index (lists bs) ≡ c.deref-in-loop-block.result.now = list_at-is bs c.loop-block.block-index b c.loop-block-test.true c.block-item.is ∙ sym c.deref-in-loop-block.ensures.value in
+    let here : list_at c.loop-block.block-index (lists bs) ≡ c.deref-in-loop-block.result.now =
+    list_at-is bs c.loop-block.block-index b c.loop-block-test.true c.block-item.is ∙ sym c.deref-in-loop-block.ensures.value in
     let P : List Run → Type 0 = λ rs. AllByRecursion (IsRun store) rs in
     let Q : List ℕ → Type 0 = λ s. AllByRecursion (IsRun s) c.deref-in-loop-block.result.now in
     subst Q (sym c.deref.ensures.value) (subst P here (each-at (IsRun store) (lists bs) c.loop-block.block-index each))
 
 -- the runs of the block, and those behind it
-next : (bs cs : List Block) (i : ℕ) (b : Block) → bs ≡ cs → i < length bs → b ≡ get_or bs i b → joined (drop i (lists cs)) ≡ b.runs.items ++ joined (drop (i + 1) (lists cs))
+next : (bs cs : List Block) (i : ℕ) (b : Block) → bs ≡ cs → i < length bs → b ≡ get_or bs i b
+    → joined (drop i (lists cs)) ≡ b.runs.items ++ joined (drop (i + 1) (lists cs))
 next bs cs i b same lt is =
     let P : List Block → Type 0 = λ ds. joined (drop i (lists ds)) ≡ b.runs.items ++ joined (drop (i + 1) (lists ds)) in
     subst P same (next-block bs i b lt is)
@@ -44,7 +46,9 @@ pub loop-block-init : goal.loop-block-init
 loop-block-init c =
     let store = c.self.inside.store.items in
     let runs = runs_of c.self.inside.blocks.items in
-    let all = c.length.ensures ∙ ap (λ xs. length (alive_bytes xs)) (shown store runs _ c.args.self.now refl c.self.view_is) ∙ live-bytes store runs c.self.invariant.kept.each in
+    let all =
+    c.length.ensures ∙ ap (λ xs. length (alive_bytes xs)) (shown store runs _ c.args.self.now refl c.self.view_is)
+    ∙ live-bytes store runs c.self.invariant.kept.each in
     let room : vec_len c.reserve.new.self + c.length.result ≤ vec_capacity c.reserve.new.self = search rules in
     record {
       made = ap (λ xs. xs ++ alive_bytes (spelled store runs)) c.reserve.ensures.items;
@@ -74,6 +78,7 @@ returns-clause-ok c =
     let store = c.self.inside.store.items in
     let bs = c.self.inside.blocks.items in
     let n = ap length c.deref-block-items.ensures.value in
-    let none : joined (drop c.loop-block.block-index (lists bs)) ≡ [] = drop-none (lists bs) c.loop-block.block-index (omega (arith, n, length-lists bs, c.loop-block-test.false)) in
+    let none : joined (drop c.loop-block.block-index (lists bs)) ≡ [] =
+    drop-none (lists bs) c.loop-block.block-index (omega (arith, n, length-lists bs, c.loop-block-test.false)) in
     sym (append-nil c.loop-block.out.items) ∙ ap (λ rs. c.loop-block.out.items ++ alive_bytes (spelled store rs)) (sym none) ∙ c.loop-block.invariant.made
     ∙ ap (λ xs. c.args.out.now.items ++ alive_bytes xs) (sym (shown store (runs_of bs) _ c.args.self.now refl c.self.view_is))

@@ -19,7 +19,8 @@ pub invariant_of-self-2 : goal.invariant_of-self-2
 invariant_of-self-2 c =
     let store = c.self.inside.store.items in
     let runs = runs_of c.self.inside.blocks.items in
-    let made : runs_of c.mark_dead.new.blocks.items ≡ kill_runs (bytes_from c.args.stamp c.args.from c.args.to) runs = c.in_ok-mark_dead.ensures.ok in
+    let made : runs_of c.mark_dead.new.blocks.items ≡ kill_runs (bytes_from c.args.stamp c.args.from c.args.to) runs =
+    c.in_ok-mark_dead.ensures.ok in
     record {
       kept = rw made (kill_runs-keep store (bytes_from c.args.stamp c.args.from c.args.to) runs c.self.invariant.kept);
       full = c.mark_dead.ensures.full;
@@ -31,14 +32,16 @@ pub returns-clause-ok : goal.returns-clause-ok
 returns-clause-ok c =
     let store = c.self.inside.store.items in
     let runs = runs_of c.self.inside.blocks.items in
-    let made : runs_of c.mark_dead.new.blocks.items ≡ kill_runs (bytes_from c.args.stamp c.args.from c.args.to) runs = c.in_ok-mark_dead.ensures.ok in
+    let made : runs_of c.mark_dead.new.blocks.items ≡ kill_runs (bytes_from c.args.stamp c.args.from c.args.to) runs =
+    c.in_ok-mark_dead.ensures.ok in
     rw made (spelled-cutting store (kill_runs (bytes_from c.args.stamp c.args.from c.args.to) runs) ∙ kill_runs-spell store (bytes_from c.args.stamp c.args.from c.args.to) runs c.self.invariant.kept.each ∙ ap (kill (bytes_from c.args.stamp c.args.from c.args.to)) (sym (shown store runs _ c.args.self.now refl c.self.view_is)))
 
 pub returns-clause-runs : goal.returns-clause-runs
 returns-clause-runs c =
     let store = c.self.inside.store.items in
     let runs = runs_of c.self.inside.blocks.items in
-    let made : runs_of c.mark_dead.new.blocks.items ≡ kill_runs (bytes_from c.args.stamp c.args.from c.args.to) runs = c.in_ok-mark_dead.ensures.ok in
+    let made : runs_of c.mark_dead.new.blocks.items ≡ kill_runs (bytes_from c.args.stamp c.args.from c.args.to) runs =
+    c.in_ok-mark_dead.ensures.ok in
     rw (made, ← c.self.view_is) (let a = length-map (kill_runs (bytes_from c.args.stamp c.args.from c.args.to) runs) (piece_in store) in let b = length-map runs (piece_in store) in omega (arith, a, b, length-kill_runs (bytes_from c.args.stamp c.args.from c.args.to) runs c.self.invariant.kept.ordered))
 
 pub returns-clause-looks : goal.returns-clause-looks
@@ -54,5 +57,6 @@ returns-in_err-mark_dead-clause-memory_only_when c =
     let store = c.self.inside.store.items in
     let runs = runs_of c.self.inside.blocks.items in
     let there = c.in_err-mark_dead.ensures.memory_only_when in
-    let some : has_from c.args.stamp c.args.from (spelled store runs) ≡ true = sought-from store c.args.stamp c.args.from runs c.self.invariant.kept.each there.1 in
+    let some : has_from c.args.stamp c.args.from (spelled store runs) ≡ true =
+    sought-from store c.args.stamp c.args.from runs c.self.invariant.kept.each there.1 in
     any_err c.from_residual.result (there.0, ap (has_from c.args.stamp c.args.from) (shown store runs _ c.args.self.now refl c.self.view_is) ∙ some)

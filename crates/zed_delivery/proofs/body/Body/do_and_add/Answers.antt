@@ -18,4 +18,5 @@ returns-clause-fits c =
     subst P (sym c.in_ok-add.ensures.ok) (fit_one_more c.args.edit c.args.self.now c.args.done.now.items c.requires.hand)
 
 pub returns-clause-visits : goal.returns-clause-visits
-returns-clause-visits c = stirs_done c.args.edit c.args.self.now c.do_one.new.self c.requires.hand c.in_ok-do_one.ensures.runs c.do_one.ensures.inbox
+returns-clause-visits c =
+    stirs_done c.args.edit c.args.self.now c.do_one.new.self c.requires.hand c.in_ok-do_one.ensures.runs c.do_one.ensures.inbox

@@ -11,6 +11,7 @@ wake_all-requires c =
 
 pub returns-clause-ok : goal.returns-clause-ok
 returns-clause-ok c =
-    let P : List Thing → Type 0 = λ xs. AreWoken xs c.args.self.now c.args.done.now.items [] c.wake_all.new.self c.wake_all.new.done.items in
+    let P : List Thing → Type 0 =
+    λ xs. AreWoken xs c.args.self.now c.args.done.now.items [] c.wake_all.new.self c.wake_all.new.done.items in
     is_followed c.args.edit.now c.args.done.now.items c.wake_all.new.done.items c.args.self.now c.wake_all.new.self
     (subst P c.in_ok-things.ensures.ok c.in_ok-wake_all.ensures.ok)

@@ -10,7 +10,8 @@ use Rattle.zed_delivery.proofs.body.Body.retry_all.Goals as goal
 pub retry-requires : goal.retry-requires
 retry-requires c =
     let steps : c.loop-edit.edit-iterator.rest.items ≡ c.in-Some.edit ∷ c.next.new.self.rest.items = search rules in
-    let P : List Edit → Type 0 = λ es. AreTried c.args.edits.items c.args.self.now c.args.done.now.items es c.loop-edit.self c.loop-edit.done.items in
+    let P : List Edit → Type 0 =
+    λ es. AreTried c.args.edits.items c.args.self.now c.args.done.now.items es c.loop-edit.self c.loop-edit.done.items in
     let many : P (c.in-Some.edit ∷ c.next.new.self.rest.items) = subst P steps c.loop-edit.invariant.tried in
     let h = c.requires in
     first_in_hand c.in-Some.edit c.next.new.self.rest.items c.loop-edit.done.items c.loop-edit.self (h.0, h.1, many h.0 h.1 h.2)
@@ -19,7 +20,8 @@ pub loop-edit-preserved : goal.loop-edit-preserved
 loop-edit-preserved c = record {
   tried =
       let steps : c.loop-edit.edit-iterator.rest.items ≡ c.in-Some.edit ∷ c.next.new.self.rest.items = search rules in
-      let P : List Edit → Type 0 = λ es. AreTried c.args.edits.items c.args.self.now c.args.done.now.items es c.loop-edit.self c.loop-edit.done.items in
+      let P : List Edit → Type 0 =
+      λ es. AreTried c.args.edits.items c.args.self.now c.args.done.now.items es c.loop-edit.self c.loop-edit.done.items in
       let many : P (c.in-Some.edit ∷ c.next.new.self.rest.items) = subst P steps c.loop-edit.invariant.tried in
       tried_one_more c.args.edits.items c.args.self.now c.args.done.now.items c.in-Some.edit c.next.new.self.rest.items c.loop-edit.self c.loop-edit.done.items c.retry.new.self c.retry.new.done.items many c.in_ok-retry.ensures.ok;
   fit = λ a. c.in_ok-retry.ensures.fits (c.loop-edit.invariant.fit a);
@@ -40,7 +42,8 @@ returns-clause-ok c =
     let none = c.in-None.ensures.steps.0 in
     let count : length c.loop-edit.edit-iterator.rest.items ≡ 0 = search rules in
     let ends : c.loop-edit.edit-iterator.rest.items ≡ [] = none_of_length c.loop-edit.edit-iterator.rest.items count in
-    let P : List Edit → Type 0 = λ es. AreTried c.args.edits.items c.args.self.now c.args.done.now.items es c.loop-edit.self c.loop-edit.done.items in
+    let P : List Edit → Type 0 =
+    λ es. AreTried c.args.edits.items c.args.self.now c.args.done.now.items es c.loop-edit.self c.loop-edit.done.items in
     subst P ends c.loop-edit.invariant.tried
 
 pub returns-clause-visits : goal.returns-clause-visits

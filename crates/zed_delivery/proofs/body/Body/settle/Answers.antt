@@ -21,7 +21,8 @@ loop-edit-preserved c =
           settled_one_more c.args.done.items c.args.self.now c.in-Some.edit c.pop.new.self.items c.loop-edit.self c.wake_last.new.rest.items c.wake_last.new.self
           (subst P last c.loop-edit.invariant.settled) c.in_ok-wake_last.ensures.ok;
       fit = c.in_ok-wake_last.ensures.fits (front_fits c.in-Some.edit c.pop.new.self.items (subst AllFit last c.loop-edit.invariant.fit));
-      texts = stirs_on 0 0 c.args.self.now c.loop-edit.self c.wake_last.new.self c.loop-edit.invariant.texts c.in_ok-wake_last.ensures.visits;
+      texts =
+          stirs_on 0 0 c.args.self.now c.loop-edit.self c.wake_last.new.self c.loop-edit.invariant.texts c.in_ok-wake_last.ensures.visits;
       few =
           let step = c.in_ok-wake_last.ensures.few in
           let fewer : length c.loop-edit.rest.items ≡ length c.pop.new.self.items + 1 = search rules in

@@ -14,7 +14,8 @@ loop-edit-preserved c = record {
       let i = c.loop-edit.edit-index in
       let edits = c.args.edits.now in
       let rest : List Edit = drop (i + 1) edits in
-      let steps : drop i edits ≡ c.edit-item.result ∷ rest = drop_more edits i c.edit-item.result c.loop-edit-test.true ∙ ap (λ x. x ∷ rest) (sym c.edit-item.is) in
+      let steps : drop i edits ≡ c.edit-item.result ∷ rest =
+      drop_more edits i c.edit-item.result c.loop-edit-test.true ∙ ap (λ x. x ∷ rest) (sym c.edit-item.is) in
       let left : AllFit (c.edit-item.result ∷ rest) = subst AllFit steps (rest_fits i edits c.requires.fit) in
       let fits : Fits c.edit-item.result = left.0 in
       let P : List Edit → Type 0 = λ es. ComeOneByOne edits c.args.self.now es c.loop-edit.self in

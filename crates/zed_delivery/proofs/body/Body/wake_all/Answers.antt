@@ -13,7 +13,8 @@ pub loop-thing-preserved : goal.loop-thing-preserved
 loop-thing-preserved c = record {
   woken =
       let steps : c.loop-thing.thing-iterator.rest.items ≡ c.in-Some.thing ∷ c.next.new.self.rest.items = search rules in
-      let P : List Thing → Type 0 = λ xs. AreWoken c.args.things.items c.args.self.now c.args.done.now.items xs c.loop-thing.self c.loop-thing.done.items in
+      let P : List Thing → Type 0 =
+      λ xs. AreWoken c.args.things.items c.args.self.now c.args.done.now.items xs c.loop-thing.self c.loop-thing.done.items in
       let many : P (c.in-Some.thing ∷ c.next.new.self.rest.items) = subst P steps c.loop-thing.invariant.woken in
       woken_one_more c.args.things.items c.args.self.now c.args.done.now.items c.in-Some.thing c.next.new.self.rest.items c.loop-thing.self c.loop-thing.done.items c.wake_one.new.self c.wake_one.new.done.items many c.in_ok-wake_one.ensures.ok;
   fit = λ a. c.in_ok-wake_one.ensures.fits (c.loop-thing.invariant.fit a);
@@ -30,5 +31,6 @@ returns-clause-ok c =
     let none = c.in-None.ensures.steps.0 in
     let count : length c.loop-thing.thing-iterator.rest.items ≡ 0 = search rules in
     let ends : c.loop-thing.thing-iterator.rest.items ≡ [] = no_things c.loop-thing.thing-iterator.rest.items count in
-    let P : List Thing → Type 0 = λ xs. AreWoken c.args.things.items c.args.self.now c.args.done.now.items xs c.loop-thing.self c.loop-thing.done.items in
+    let P : List Thing → Type 0 =
+    λ xs. AreWoken c.args.things.items c.args.self.now c.args.done.now.items xs c.loop-thing.self c.loop-thing.done.items in
     subst P ends c.loop-thing.invariant.woken

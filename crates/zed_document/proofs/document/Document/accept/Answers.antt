@@ -25,7 +25,8 @@ wake-requires c = λ some.
     let v : c.self.inside.edits.items ≡ c.args.self.now.edits = ap (λ (r : Replica). r.edits) c.self.view_is in
     let f : c.self.inside.is_stale ≡ false = ap (λ (r : Replica). r.is_stale) c.self.view_is ∙ c.requires.sound in
     let new : edit_with c.args.edit.stamp c.self.inside.edits.items ≡ None = ap (edit_with c.args.edit.stamp) v ∙ c.requires.new in
-    let come = comes c.args.edit c.self.inside.edits.items c.self.inside.held c.self.inside.is_stale c.self.inside.body c.self.invariant f new in
+    let come =
+    comes c.args.edit c.self.inside.edits.items c.self.inside.held c.self.inside.is_stale c.self.inside.body c.self.invariant f new in
     rest_waits c.held_edits_are_remembered.ensures c.args.edit c.self.inside.edits.items c.self.inside.held c.follow.new.self c.self.inside.body c.take.new.self c.in_ok-taken.taken
     come c.requires.fits c.self.invariant.held (c.in_ok-taken.ensures.ok c.self.inside.edits.items come) c.in_ok-taken.ensures.tells c.in-Ok.ensures.ok some
 
@@ -35,7 +36,8 @@ invariant_of-self-2 c =
     let f : c.self.inside.is_stale ≡ false = ap (λ (r : Replica). r.is_stale) c.self.view_is ∙ c.requires.sound in
     let new : edit_with c.args.edit.stamp c.self.inside.edits.items ≡ None = ap (edit_with c.args.edit.stamp) v ∙ c.requires.new in
     let items : c.insert.new.self.items ≡ insert c.self.inside.edits.items c.args.place c.args.edit = search rules in
-    let is : with_edit c.args.edit c.self.inside.edits.items ≡ c.insert.new.self.items = rw v (c.requires.belongs ∙ sym (items ∙ ap (λ es. insert es c.args.place c.args.edit) v)) in
+    let is : with_edit c.args.edit c.self.inside.edits.items ≡ c.insert.new.self.items =
+    rw v (c.requires.belongs ∙ sym (items ∙ ap (λ es. insert es c.args.place c.args.edit) v)) in
     let renewed = is_renewed c.in_ok-taken.taken c.args.edit c.take.new.self.inbox c.self.inside.held c.follow.new.self c.wake.new.self c.in_ok-taken.taken.woken refl c.in-Ok.ensures.ok c.wake.ensures.some c.wake.ensures.none in
     let kept = one_more c.held_edits_are_remembered.ensures c.calm_edits_hold_the_same.ensures c.sets_rise.ensures.edit c.sets_stay_fit.ensures.edit
     c.args.edit c.self.inside.edits.items c.self.inside.held c.wake.new.self c.self.inside.is_stale c.self.inside.body c.take.new.self c.in_ok-taken.taken
@@ -47,7 +49,8 @@ returns-clause-tells c =
     let v : c.self.inside.edits.items ≡ c.args.self.now.edits = ap (λ (r : Replica). r.edits) c.self.view_is in
     let f : c.self.inside.is_stale ≡ false = ap (λ (r : Replica). r.is_stale) c.self.view_is ∙ c.requires.sound in
     let new : edit_with c.args.edit.stamp c.self.inside.edits.items ≡ None = ap (edit_with c.args.edit.stamp) v ∙ c.requires.new in
-    let come = comes c.args.edit c.self.inside.edits.items c.self.inside.held c.self.inside.is_stale c.self.inside.body c.self.invariant f new in
+    let come =
+    comes c.args.edit c.self.inside.edits.items c.self.inside.held c.self.inside.is_stale c.self.inside.body c.self.invariant f new in
     let tells = tells_new c.args.edit c.self.inside.edits.items c.self.inside.body c.in_ok-taken.taken (record { state = c.of_new.result; woken = c.in_ok-taken.taken.woken; visits = c.visits_since.result }) come c.in_ok-taken.ensures.tells c.of_new.ensures refl in
     inr (subst (λ es. TellsNew es (with_edit c.args.edit es) c.args.edit (record { state = c.of_new.result; woken = c.in_ok-taken.taken.woken; visits = c.visits_since.result })) v tells)
 
@@ -58,9 +61,11 @@ returns-clause-visits c =
     let f : c.self.inside.is_stale ≡ false = ap (λ (r : Replica). r.is_stale) c.self.view_is ∙ c.requires.sound in
     let k : counts_of c.self.inside.body.texts ≡ c.args.self.now.counts = ap (λ (r : Replica). r.counts) c.self.view_is in
     let new : edit_with c.args.edit.stamp c.self.inside.edits.items ≡ None = ap (edit_with c.args.edit.stamp) v ∙ c.requires.new in
-    let come = comes c.args.edit c.self.inside.edits.items c.self.inside.held c.self.inside.is_stale c.self.inside.body c.self.invariant f new in
+    let come =
+    comes c.args.edit c.self.inside.edits.items c.self.inside.held c.self.inside.is_stale c.self.inside.body c.self.invariant f new in
     let woken = none_woken c.held_edits_are_remembered.ensures c.args.edit c.self.inside.edits.items c.self.inside.body c.in_ok-taken.taken come c.in_ok-taken.ensures.tells in
-    let told = told_by c.args.edit c.in_ok-taken.taken c.self.inside.body c.take.new.self.texts c.visits_before-before.result c.visits_since.result
+    let told =
+    told_by c.args.edit c.in_ok-taken.taken c.self.inside.body c.take.new.self.texts c.visits_before-before.result c.visits_since.result
     c.visits_before-before.ensures.some c.visits_before-before.ensures.none c.visits_before-before.ensures.calm c.visits_since.ensures.some c.visits_since.ensures.within c.visits_since.ensures.none woken in
     let all = tells_visits c.args.edit c.self.inside.edits.items c.self.inside.body c.take.new.self c.in_ok-taken.taken d (c.self.invariant.shown f) (c.in_ok-taken.ensures.ok c.self.inside.edits.items come) c.in_ok-taken.ensures.visits c.of_new.ensures refl told in
     let log = subst (λ es. TellsVisits c.args.edit es (counts_of c.self.inside.body.texts) (counts_of c.take.new.self.texts) d) v all in

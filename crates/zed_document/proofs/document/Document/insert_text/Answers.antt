@@ -33,7 +33,8 @@ returns-in-Some-clause-edits c =
 pub returns-in-Some-clause-shows : goal.returns-in-Some-clause-shows
 returns-in-Some-clause-shows c =
     let t : Typed c.args.self.now c.args.replica c.args.text c.args.position c.args.bytes c.in-Some.stamp c.in-Ok.after = typed c.replay_goes_edit_by_edit.ensures.step c.texts_keep_names.ensures.own c.args.self.now c.args.replica c.args.text c.args.position c.args.bytes c.in-Some.stamp c.in-Ok.after _ c.edits.ensures.rising c.edits.ensures.all c.in-Some.ensures.next c.in-Ok.ensures in
-    let e : Edit = authored c.args.self.now.edits c.args.replica (insertion_at c.args.self.now.edits c.args.text c.args.position c.args.bytes) in
+    let e : Edit =
+    authored c.args.self.now.edits c.args.replica (insertion_at c.args.self.now.edits c.args.text c.args.position c.args.bytes) in
     on-ok c.make.result c.make.new.self.edits c.args.self.now.edits (c.args.self.now.edits ++ e ∷ []) (λ es. text (replay es) c.args.text ≡ with_bytes c.args.position c.args.bytes (text (replay c.args.self.now.edits) c.args.text)) (returns-in-Some-clause-edits c) t.made.shows
 
 pub returns-in-Some-clause-memory_only_when : goal.returns-in-Some-clause-memory_only_when

@@ -24,7 +24,8 @@ pub take_all-requires-clause-new : goal.take_all-requires-clause-new
 take_all-requires-clause-new c =
     let v : c.self.inside.edits.items ≡ c.args.self.now.edits = ap (λ (r : Replica). r.edits) c.self.view_is in
     let f : c.self.inside.is_stale ≡ false = ap (λ (r : Replica). r.is_stale) c.self.view_is ∙ c.requires.sound in
-    let follow : CanFollow c.self.inside.edits.items c.args.edits.now = subst (λ (es : List Edit). CanFollow es c.args.edits.now) (sym v) c.requires.follow in
+    let follow : CanFollow c.self.inside.edits.items c.args.edits.now =
+    subst (λ (es : List Edit). CanFollow es c.args.edits.now) (sym v) c.requires.follow in
     let all = are_new c.rising_edits_are_apart.ensures c.args.edits.now c.self.inside.edits.items c.self.inside.held c.self.inside.is_stale c.self.inside.body c.self.invariant f follow in
     subst (λ (es : List Edit). AreNewTo es c.self.inside.body) (sym (c.deref-2.ensures.value ∙ c.in_ok-copies.ensures)) all
 
@@ -32,11 +33,13 @@ pub invariant_of-self-2 : goal.invariant_of-self-2
 invariant_of-self-2 c =
     let v : c.self.inside.edits.items ≡ c.args.self.now.edits = ap (λ (r : Replica). r.edits) c.self.view_is in
     let f : c.self.inside.is_stale ≡ false = ap (λ (r : Replica). r.is_stale) c.self.view_is ∙ c.requires.sound in
-    let follow : CanFollow c.self.inside.edits.items c.args.edits.now = subst (λ (es : List Edit). CanFollow es c.args.edits.now) (sym v) c.requires.follow in
+    let follow : CanFollow c.self.inside.edits.items c.args.edits.now =
+    subst (λ (es : List Edit). CanFollow es c.args.edits.now) (sym v) c.requires.follow in
     let sizes : HaveSizes c.args.edits.now = subst HaveSizes (c.deref.ensures.value ∙ c.in_ok-copies.ensures) c.edits_have_sizes.ensures in
     let shows : ShowsAll c.args.edits.now c.self.inside.body c.take_all.new.self = subst (λ (es : List Edit). ShowsAll es c.self.inside.body c.take_all.new.self) (c.deref-2.ensures.value ∙ c.in_ok-copies.ensures) c.in_ok-take_all.ensures.ok in
     let joined : c.append.new.self.items ≡ c.self.inside.edits.items ++ c.in_ok-copies.copies.items = search rules in
-    let all : c.append.new.self.items ≡ c.self.inside.edits.items ++ c.args.edits.now = joined ∙ ap (λ (es : List Edit). c.self.inside.edits.items ++ es) c.in_ok-copies.ensures in
+    let all : c.append.new.self.items ≡ c.self.inside.edits.items ++ c.args.edits.now =
+    joined ∙ ap (λ (es : List Edit). c.self.inside.edits.items ++ es) c.in_ok-copies.ensures in
     let kept = many_more c.rising_edits_are_apart.ensures c.replay_goes_edit_by_edit.ensures.step c.sets_rise.ensures.union c.sets_stay_fit.ensures.union
     c.args.edits.now c.self.inside.edits.items c.self.inside.held c.self.inside.is_stale c.self.inside.body c.take_all.new.self
     c.self.invariant f follow sizes shows in

@@ -65,7 +65,8 @@ returns-clause-visits c =
     let new : edit_with c.args.edit.stamp c.self.inside.log ≡ None = ap (edit_with c.args.edit.stamp) v ∙ c.requires.new in
     let come = comes c.args.edit c.self.inside.log c.self.inside.held c.self.inside.is_stale c.self.inside.body c.self.invariant f new in
     let woken = none_woken c.held_edits_are_remembered.ensures c.args.edit c.self.inside.log c.self.inside.body c.in_ok-taken.taken come c.in_ok-taken.ensures.tells in
-    let told = told_by c.args.edit c.in_ok-taken.taken c.self.inside.body c.take.new.self.texts c.visits_before-before.result c.visits_since.result
+    let told =
+    told_by c.args.edit c.in_ok-taken.taken c.self.inside.body c.take.new.self.texts c.visits_before-before.result c.visits_since.result
     c.visits_before-before.ensures.some c.visits_before-before.ensures.none c.visits_before-before.ensures.calm c.visits_since.ensures.some c.visits_since.ensures.within c.visits_since.ensures.none woken in
     let all = tells_visits c.args.edit c.self.inside.log c.self.inside.body c.take.new.self c.in_ok-taken.taken d (c.self.invariant.shown f) (c.in_ok-taken.ensures.ok c.self.inside.log come) c.in_ok-taken.ensures.visits c.of_new.ensures refl told in
     let log = subst (λ es. TellsVisits c.args.edit es (counts_of c.self.inside.body.texts) (counts_of c.take.new.self.texts) d) v all in

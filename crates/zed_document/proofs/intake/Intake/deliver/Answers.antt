@@ -26,5 +26,6 @@ returns-then-is_same-clause-visits c =
     let f : c.self.inside.is_stale ≡ false = search rules in
     let k : counts_of c.self.inside.body.texts ≡ c.args.self.now.counts = ap (λ (r : Replica). r.counts) c.self.view_is in
     let known = tells_known c.args.edit c.self.inside.log c.self.inside.body d (c.self.invariant.shown f) refl refl in
-    let log = subst (λ es. TellsVisits c.args.edit es (counts_of c.self.inside.body.texts) (counts_of c.self.inside.body.texts) d) v known in
+    let log =
+    subst (λ es. TellsVisits c.args.edit es (counts_of c.self.inside.body.texts) (counts_of c.self.inside.body.texts) d) v known in
     subst (λ (n : Counts). TellsVisits c.args.edit c.args.self.now.edits n (counts_of c.self.inside.body.texts) d) k log

@@ -22,14 +22,17 @@ fit_found s (x ∷ xs) f fit h = go (same_stamp x.stamp s) h (fit_found s xs f f
     go true h more = let q : x ≡ f = cc in subst Fits q fit.0
     go false h more = more h
 
-fits_there : (s : Stamp) (es : List Edit) (r : Option (Bor Edit)) → AllFit es → IfSome r (λ f. edit_with s es ≡ Some f.now) → IfSome r (λ f. Fits f.now)
+fits_there : (s : Stamp) (es : List Edit) (r : Option (Bor Edit)) → AllFit es → IfSome r (λ f. edit_with s es ≡ Some f.now)
+    → IfSome r (λ f. Fits f.now)
 fits_there s es None fit h = tt
 fits_there s es (Some x) fit h = fit_found s es x.now fit h
 
 pub returns-clause-fits : goal.returns-clause-fits
 returns-clause-fits c = fits_there c.args.stamp c.self.inside.log c.find.result c.self.invariant.fit c.find.ensures.some
 
-known_there : (s : Stamp) (es : List Edit) (r : Option (Bor Edit)) → ((f : Edit) → Contains es f → with_edit f es ≡ es) → IfSome r (λ f. edit_with s es ≡ Some f.now) → IfSome r (λ f. with_edit f.now es ≡ es)
+known_there : (s : Stamp) (es : List Edit) (r : Option (Bor Edit)) → ((f : Edit) → Contains es f → with_edit f es ≡ es)
+    → IfSome r (λ f. edit_with s es ≡ Some f.now)
+    → IfSome r (λ f. with_edit f.now es ≡ es)
 known_there s es None joins h = tt
 known_there s es (Some x) joins h = (joins x.now (edit_with-stands s es x.now h).0)
 

@@ -25,7 +25,8 @@ move_in-requires-clause-room c =
 
 pub loop-ended-init : goal.loop-ended-init
 loop-ended-init c =
-    let laws : SetsHold = record { rises = c.sets_rise.ensures.edit; joins = c.sets_rise.ensures.union; known = c.rising_lists_are_sets.ensures.known } in
+    let laws : SetsHold =
+    record { rises = c.sets_rise.ensures.edit; joins = c.sets_rise.ensures.union; known = c.rising_lists_are_sets.ensures.known } in
     let log = c.self.inside.log.items in
     let run = c.self.inside.run.items in
     let settled = c.self.inside.settled.items in
@@ -58,7 +59,8 @@ move_in-requires-in-Some-clause-room c =
 
 pub loop-ended-preserved : goal.loop-ended-preserved
 loop-ended-preserved c =
-    let laws : SetsHold = record { rises = c.sets_rise.ensures.edit; joins = c.sets_rise.ensures.union; known = c.rising_lists_are_sets.ensures.known } in
+    let laws : SetsHold =
+    record { rises = c.sets_rise.ensures.edit; joins = c.sets_rise.ensures.union; known = c.rising_lists_are_sets.ensures.known } in
     let log = c.loop-ended.log.items in
     let left = c.pop.new.self.items in
     let q = c.into_edits.result.items in
@@ -71,6 +73,8 @@ loop-ended-preserved c =
     let len : length c.move_in-in-Some.new.log.items ≡ length (union log q) = ap length joins in
     record {
       runs = subst (λ (es : List Edit). AreRuns (es ∷ left)) (sym joins) (runs-close laws log q left runs);
-      whole = ap (λ (es : List Edit). joined (es ∷ left)) joins ∙ joined-close laws log q left runs ∙ ap (λ (rs : List (List Edit)). joined (log ∷ rs)) (sym cut) ∙ c.loop-ended.invariant.whole;
+      whole =
+          ap (λ (es : List Edit). joined (es ∷ left)) joins ∙ joined-close laws log q left runs
+          ∙ ap (λ (rs : List (List Edit)). joined (log ∷ rs)) (sym cut) ∙ c.loop-ended.invariant.whole;
       room = omega (arith, most, len, last, count, c.loop-ended.invariant.room, c.move_in-in-Some.ensures.room);
     }

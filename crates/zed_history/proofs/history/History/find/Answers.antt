@@ -9,7 +9,8 @@ use Rattle.zed_history.proofs.history.History.find.Goals as goal
 
 pub returns-in-Ok-clause-some : goal.returns-in-Ok-clause-some
 returns-in-Ok-clause-some c =
-    let laws : SetsHold = record { rises = c.sets_rise.ensures.edit; joins = c.sets_rise.ensures.union; known = c.rising_lists_are_sets.ensures.known } in
+    let laws : SetsHold =
+        record { rises = c.sets_rise.ensures.edit; joins = c.sets_rise.ensures.union; known = c.rising_lists_are_sets.ensures.known } in
     let log = c.self.inside.log.items in
     let late = c.self.inside.settled.items ++ c.self.inside.run.items ∷ [] in
     let there : edit_with c.args.stamp log ≡ Some c.in-Ok.there.now = search rules in
@@ -17,7 +18,8 @@ returns-in-Ok-clause-some c =
 
 pub returns-in-Some-clause-some : goal.returns-in-Some-clause-some
 returns-in-Some-clause-some c =
-    let laws : SetsHold = record { rises = c.sets_rise.ensures.edit; joins = c.sets_rise.ensures.union; known = c.rising_lists_are_sets.ensures.known } in
+    let laws : SetsHold =
+        record { rises = c.sets_rise.ensures.edit; joins = c.sets_rise.ensures.union; known = c.rising_lists_are_sets.ensures.known } in
     let log = c.self.inside.log.items in
     let settled = c.self.inside.settled.items in
     let last = c.self.inside.run.items ∷ [] in
@@ -35,7 +37,8 @@ find_last-requires c =
 
 pub returns-clause-some : goal.returns-clause-some
 returns-clause-some c =
-    let laws : SetsHold = record { rises = c.sets_rise.ensures.edit; joins = c.sets_rise.ensures.union; known = c.rising_lists_are_sets.ensures.known } in
+    let laws : SetsHold =
+        record { rises = c.sets_rise.ensures.edit; joins = c.sets_rise.ensures.union; known = c.rising_lists_are_sets.ensures.known } in
     let log = c.self.inside.log.items in
     let settled = c.self.inside.settled.items in
     let run = c.self.inside.run.items in
@@ -47,7 +50,8 @@ returns-clause-some c =
 
 pub returns-clause-none : goal.returns-clause-none
 returns-clause-none c =
-    let laws : SetsHold = record { rises = c.sets_rise.ensures.edit; joins = c.sets_rise.ensures.union; known = c.rising_lists_are_sets.ensures.known } in
+    let laws : SetsHold =
+        record { rises = c.sets_rise.ensures.edit; joins = c.sets_rise.ensures.union; known = c.rising_lists_are_sets.ensures.known } in
     let log = c.self.inside.log.items in
     let settled = c.self.inside.settled.items in
     let run = c.self.inside.run.items in

@@ -13,7 +13,8 @@ find_last-requires c =
 
 pub returns-clause-none : goal.returns-clause-none
 returns-clause-none c =
-    let laws : SetsHold = record { rises = c.sets_rise.ensures.edit; joins = c.sets_rise.ensures.union; known = c.rising_lists_are_sets.ensures.known } in
+    let laws : SetsHold =
+        record { rises = c.sets_rise.ensures.edit; joins = c.sets_rise.ensures.union; known = c.rising_lists_are_sets.ensures.known } in
     let log = c.self.inside.log.items in
     let settled = c.self.inside.settled.items in
     let run = c.self.inside.run.items in

@@ -10,7 +10,8 @@ pub loop-stamp-init : goal.loop-stamp-init
 loop-stamp-init c =
     let es = c.args.self.now in
     let keys : c.into_iter-stamp-iterator.result ≡ keys_of c.self.inside.edits.entries = search rules in
-    let stamps : c.into_iter-stamp-iterator.result ≡ stamps_of es = keys ∙ keys_stamped c.self.inside.edits.entries es c.self.invariant.under c.self.view_is in
+    let stamps : c.into_iter-stamp-iterator.result ≡ stamps_of es =
+        keys ∙ keys_stamped c.self.inside.edits.entries es c.self.invariant.under c.self.view_is in
     let many : length c.into_iter-stamp-iterator.result ≡ length es = ap length stamps ∙ length-map es (λ (e : Edit). e.stamp) in
     let none : c.in_ok-stamps.stamps.items ≡ [] = search rules in
     let empty : vec_len c.in_ok-stamps.stamps ≡ 0 = search rules in

@@ -30,7 +30,9 @@ loop-stamp-preserved c =
           let room : vec_capacity c.loop-stamp.taken ≤ vec_capacity c.match-take.taken = search rules in
           record {
             left = t.left ∙ ap (λ fs. stamps_of (filter (names x) fs)) (sym rest);
-            got = ap (λ ys. ys ++ filter (names x) c.take.new.self) made ∙ ap (λ fs. (out ++ w.in-Some.edit ∷ []) ++ filter (names x) fs) rest ∙ t.got ∙ c.loop-stamp.invariant.got;
+            got =
+                ap (λ ys. ys ++ filter (names x) c.take.new.self) made ∙ ap (λ fs. (out ++ w.in-Some.edit ∷ []) ++ filter (names x) fs) rest
+                ∙ t.got ∙ c.loop-stamp.invariant.got;
             others = ap (λ fs. filter (fails (names x)) fs) rest ∙ t.others ∙ c.loop-stamp.invariant.others;
             rising = subst IsRising (sym rest) t.rising;
             count = omega (arith, longer, c.loop-stamp.invariant.count);

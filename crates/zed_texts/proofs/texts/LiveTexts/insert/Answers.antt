@@ -70,6 +70,8 @@ returns-in_default-clause-runs c =
 pub returns-in_err-looked-clause-memory_only_when : goal.returns-in_err-looked-clause-memory_only_when
 returns-in_err-looked-clause-memory_only_when c =
     let ys = c.self.inside.entries.entries in
-    let found = found-at c.args.id ys c.in-Some.i c.in-Some-get_index_mut.text.now c.in-Some.ensures.index c.in-Some-get_index_mut.ensures.value in
-    let there : is_some (text_in c.args.id (elements_of ys)) ≡ true = ap is_some (in-elements c.args.id ys ∙ ap (option_map elements) found) in
+    let found =
+    found-at c.args.id ys c.in-Some.i c.in-Some-get_index_mut.text.now c.in-Some.ensures.index c.in-Some-get_index_mut.ensures.value in
+    let there : is_some (text_in c.args.id (elements_of ys)) ≡ true =
+    ap is_some (in-elements c.args.id ys ∙ ap (option_map elements) found) in
     any_err c.from_residual.result (subst (λ zs. is_some (text_in c.args.id (elements_of zs)) ≡ true) c.self.view_is there, c.in_err-looked.ensures.memory_only_when)

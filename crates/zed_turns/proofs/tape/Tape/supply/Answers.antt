@@ -57,7 +57,8 @@ loop-preserved g c =
     let lacking = c.in_ok-attempt-2.ensures.lacking (ap (λ b. Ok b) c.if-branch-2.false) in
     let play = c.in_ok-refill.ensures.play ∙ old.play in
     let used = c.in_ok-refill.ensures.used ∙ old.used in
-    let words = one_more c.args.self.now.words.items old.came more.0 c.loop.self.words.items c.refill.new.self.words.items old.words more.2 in
+    let words =
+    one_more c.args.self.now.words.items old.came more.0 c.loop.self.words.items c.refill.new.self.words.items old.words more.2 in
     let before : length old.came ≡ 32 * c.loop.counter = old.size in
     let last : length more.0 ≡ 32 = more.1 in
     let both : length (old.came ++ more.0) ≡ length old.came + length more.0 = length-append old.came more.0 in

@@ -19,7 +19,9 @@ loop-i-preserved-then-passes c =
     let below : i < length bs = omega (arith, c.boards-i.ensures) in
     let first = λ (n : ℕ). first_of 101 q (filter (λ (x : Board). not x.removed) (drop n bs)) in
     record {
-      boards = c.put.ensures.boards ∙ ap (λ (xs : List Board). take 101 (put b xs)) (c.loop-i.invariant.boards ∙ ap first back) ∙ sym (taken_in 101 q bs i no_board below (sym c.passes.ensures ∙ c.if-passes.true));
+      boards =
+          c.put.ensures.boards ∙ ap (λ (xs : List Board). take 101 (put b xs)) (c.loop-i.invariant.boards ∙ ap first back)
+          ∙ sym (taken_in 101 q bs i no_board below (sym c.passes.ensures ∙ c.if-passes.true));
       within = c.put.ensures.within;
       few = c.put.ensures.few;
       inline = c.put.ensures.inline;
@@ -34,7 +36,8 @@ loop-i-preserved c =
     let below : i < length bs = omega (arith, c.boards-i.ensures) in
     let first = λ (n : ℕ). first_of 101 q (filter (λ (x : Board). not x.removed) (drop n bs)) in
     record {
-      boards = c.loop-i.invariant.boards ∙ ap first back ∙ sym (left_out 101 q bs i no_board below (sym c.passes.ensures ∙ c.if-passes.false));
+      boards =
+          c.loop-i.invariant.boards ∙ ap first back ∙ sym (left_out 101 q bs i no_board below (sym c.passes.ensures ∙ c.if-passes.false));
       within = c.loop-i.invariant.within;
       few = c.loop-i.invariant.few;
       inline = c.loop-i.invariant.inline;
