@@ -1,6 +1,7 @@
 pub mod Finding
 pub mod Growing
 pub mod Held
+pub mod Lists
 pub mod Numbering
 pub mod Ordered
 pub mod Places

@@ -1,5 +1,5 @@
 -- The programs of a world.
-use Rattle.std.proofs.Common.{◌≡◌, ℕ, ◌+◌, ◌<◌, ◌^◌, List, [], ◌∷◌, ◌++◌, length, drop, get_or, suc, add-one, add-zero, drop-cons, refl, ap, sym, append_assoc, arith, IfSome}
+use Rattle.std.proofs.Common.{◌≡◌, ℕ, ◌+◌, ◌<◌, ◌^◌, List, [], ◌∷◌, ◌++◌, length, drop, get_or, suc, add-one, refl, append_assoc, arith, IfSome}
 use Rattle.std.specs.List.{AllByRecursion, filter_map}
 use Rattle.zed_types.specs.declared.tile.Tile.{Tile}
 use Rattle.zed_types.specs.Table.{map_from}
@@ -9,19 +9,7 @@ use Rattle.zed_world.specs.declared.stat.Code.{Code}
 use Rattle.zed_world.specs.declared.stat.Code.TheVariants as code
 use Rattle.zed_world.specs.Normal.{IsNormalCode, AreNormalStats, IsNormalBoard}
 use Rattle.zed_edit.specs.Genesis.{own_program, programs_of}
-
--- a numbered list in two parts
-pub map_from-append : {X Y : Type 0} (f : ℕ → X → Y) (i : ℕ) (xs ys : List X)
-    → map_from f i (xs ++ ys) ≡ map_from f i xs ++ map_from f (i + length xs) ys
-map_from-append f i [] ys = rw add-zero refl
-map_from-append f i (x ∷ xs) ys =
-    let sum : i + 1 + length xs ≡ i + length (x ∷ xs) = omega arith in
-    ap (λ rest. f i x ∷ rest) (rw (← sum) (map_from-append f (i + 1) xs ys))
-
--- the members of a list, one before those that follow it
-pub cons_at : {X : Type 0} (xs : List X) (k : ℕ) (d x : X) (rest : List X) → k < length xs → x ≡ get_or xs k d → rest ≡ drop (suc k) xs
-    → x ∷ rest ≡ drop k xs
-cons_at xs k d x rest l e r = rw (e, r) (sym (drop-cons xs k d l))
+use Rattle.zed_edit.proofs.Lists.{cons_at, map_from-append}
 
 -- the texts of one board more
 pub texts_more : {Y : Type 0} (f : ℕ → List ℕ → Y) (old new made : List Y) (t u : ℕ) (bs : List BoardData) (i : ℕ) (b : BoardData)

@@ -21,13 +21,6 @@ fn exit_of(stamp: Stamp, n: u8) -> Option<BoardId>
     Some(BoardId::new(stamp, u32::from(n)))
 }
 
-fn copy_of(bytes: &Bytes) -> Result<Bytes, EditError>
-    ensures result { IfOk result (λ copy. copy ≡ bytes.now) }
-    ensures err { IfErr result (λ e. e ≡ EditError.Memory) }
-{
-    Ok(bytes.copy()?)
-}
-
 fn flags_of(flags: &[Bytes]) -> Result<[Bytes; 10], EditError>
     requires { length flags.now ≡ 10 }
     ensures result { IfOk result (λ fs. fs ≡ flags.now) }
@@ -37,16 +30,16 @@ fn flags_of(flags: &[Bytes]) -> Result<[Bytes; 10], EditError>
         unreachable!()
     };
     Ok([
-        copy_of(a)?,
-        copy_of(b)?,
-        copy_of(c)?,
-        copy_of(d)?,
-        copy_of(e)?,
-        copy_of(f)?,
-        copy_of(g)?,
-        copy_of(h)?,
-        copy_of(i)?,
-        copy_of(j)?,
+        a.copy()?,
+        b.copy()?,
+        c.copy()?,
+        d.copy()?,
+        e.copy()?,
+        f.copy()?,
+        g.copy()?,
+        h.copy()?,
+        i.copy()?,
+        j.copy()?,
     ])
 }
 
@@ -71,7 +64,7 @@ pub(crate) fn header_of(stamp: Stamp, header: &zed_world::Header) -> Result<Head
         keys: header.keys,
         saved: header.saved,
         current_board: BoardId::new(stamp, u32::from(header.current_board)),
-        world_name: copy_of(&header.name)?,
+        world_name: header.name.copy()?,
         flags,
     })
 }
@@ -95,7 +88,7 @@ fn properties_of(
             exit_of(stamp, properties.west),
             exit_of(stamp, properties.east),
         ],
-        texts: [copy_of(name)?, copy_of(&properties.message)?],
+        texts: [name.copy()?, properties.message.copy()?],
     })
 }
 

@@ -1,11 +1,11 @@
 //! Reading the kinds of fields: numbers, strings, stamps, names and what is made of them.
-ghost use Rattle.std.specs.Prelude.{◌≡◌, ◌+◌, ◌<◌, ◌≤◌, IfOk, OnErr, length, true};
+ghost use Rattle.std.specs.Prelude.{◌≡◌, ◌+◌, ◌<◌, ◌≤◌, length, true};
 ghost use Rattle.zed_types.specs.Strings.{has_bytes};
 ghost use Rattle.zed_editfile.specs.Reading.{Gives, GivesUnless, reads_such, byte_at, number_at, integer_at, boolean_at, string_at, stamp_at, name_at, board_name_at, stat_name_at, text_name_at, element_name_at, optional_at, tile_at, rectangle_at, third_parameter_at, range_at};
 
 use crate::error::EditFileError;
 use byteorder::{ByteOrder, LittleEndian};
-use std::alloc::{AllocError, Global};
+use std::alloc::Global;
 use zed_op::Cause;
 use zed_types::{
     BoardId, ByteRange, Bytes, ElemId, Name, Rectangle, Stamp, StatId, TextId, ThirdParameter, Tile,
@@ -76,17 +76,6 @@ pub(crate) fn boolean_of(bytes: &[u8]) -> Result<(bool, &[u8]), EditFileError>
     }
 }
 
-/// A string of these bytes. One without bytes takes no memory.
-pub(crate) fn copy_of(alloc: Global, bytes: &[u8]) -> Result<Bytes, AllocError>
-    ensures copy { IfOk result (λ b. b ≡ bytes.now) }
-    ensures memory_only_when { OnErr result (has_bytes bytes.now ≡ true) }
-{
-    if bytes.is_empty() {
-        return Ok(Bytes::new(Vec::new(alloc)));
-    }
-    Ok(Bytes::new(bytes.to_vec(alloc)?))
-}
-
 /// A length byte and so many bytes.
 #[tactic(auto, unfolding(crate::specs::Reading::string_at))]
 pub(crate) fn string_of(alloc: Global, bytes: &[u8]) -> Result<(Bytes, &[u8]), EditFileError>
@@ -99,7 +88,7 @@ pub(crate) fn string_of(alloc: Global, bytes: &[u8]) -> Result<(Bytes, &[u8]), E
         return Err(EditFileError::BadEdit(Cause::Short));
     }
     let (text, rest) = rest.split_at(len);
-    Ok((copy_of(alloc, text)?, rest))
+    Ok((Bytes::from_slice(alloc, text)?, rest))
 }
 
 #[tactic(auto, unfolding(crate::specs::Reading::stamp_at))]

@@ -5,12 +5,13 @@ ghost use Rattle.zed_editfile.specs.Reading.{Gives, GivesUnless, SpellsString, r
 
 use crate::error::EditFileError;
 use crate::fields::{
-    board_of, byte_of, copy_of, optional_element_of, range_of, rectangle_of, stamp_of, stat_of,
-    string_of, text_of, tile_of,
+    board_of, byte_of, optional_element_of, range_of, rectangle_of, stamp_of, stat_of, string_of,
+    text_of, tile_of,
 };
 use crate::settings::{board_setting_of, header_setting_of, stat_fields_of, stat_setting_of};
 use std::alloc::Global;
 use zed_op::{Cause, Edit, Op};
+use zed_types::Bytes;
 
 #[tactic(auto, unfolding(crate::specs::Reading::set_board_at), using(crate::proofs::Strings::set_board_has))]
 fn set_board_of(alloc: Global, version: u8, bytes: &[u8]) -> Result<(Op, &[u8]), EditFileError>
@@ -58,7 +59,7 @@ fn text_insert_of(alloc: Global, bytes: &[u8]) -> Result<(Op, &[u8]), EditFileEr
 {
     let (text, rest) = text_of(bytes)?;
     let (after, rest) = optional_element_of(rest)?;
-    let inserted = copy_of(alloc, rest)?;
+    let inserted = Bytes::from_slice(alloc, rest)?;
     Ok((Op::TextInsert(text, after, inserted), &[]))
 }
 
@@ -78,7 +79,7 @@ fn op_of(alloc: Global, version: u8, number: u8, bytes: &[u8]) -> Result<(Op, &[
         (λ x. (x.0, x.1.now)) result (op_at version number bytes.now) }
 {
     match number {
-        1 => Ok((Op::Genesis(copy_of(alloc, bytes)?), &[])),
+        1 => Ok((Op::Genesis(Bytes::from_slice(alloc, bytes)?), &[])),
         2 => {
             let (setting, rest) = header_setting_of(alloc, bytes)?;
             Ok((Op::SetHeader(setting), rest))

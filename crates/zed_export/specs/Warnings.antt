@@ -1,16 +1,13 @@
 -- What is odd about a world, though it can be saved.
-use Rattle.std.specs.Prelude.{ℕ, ◌+◌, ◌-◌, ◌*◌, Bool, false, not, ◌&&◌, ◌==◌, nat_le, if◌then◌else◌, List, [], ◌∷◌, ◌++◌, length, slice_get, Option, Some, None}
+use Rattle.std.specs.Prelude.{ℕ, ◌+◌, Bool, false, not, ◌&&◌, ◌==◌, if◌then◌else◌, List, [], ◌∷◌, ◌++◌, length, Option, Some, None}
 use Rattle.std.specs.List.{list_any}
 use Rattle.zed_types.specs.declared.tile.Tile.{Tile}
+use Rattle.zed_types.specs.Table.{has_tile, tile_at}
 use Rattle.zed_world.specs.Contents.{Contents}
 use Rattle.zed_world.specs.declared.board.BoardData.{BoardData}
 use Rattle.zed_world.specs.declared.stat.StatData.{StatData}
 use Rattle.zed_export.specs.declared.warning.Warning.{Warning}
 use Rattle.zed_export.specs.declared.warning.Warning.TheVariants.{PlayerTile, OffBoard, SamePlace}
-
--- whether a column and a row are in the table
-abbrev pub is_in_table : ℕ → ℕ → Bool
-is_in_table x y = nat_le 1 x && nat_le x 60 && nat_le 1 y && nat_le y 25
 
 -- whether there is a tile, and it is the player's
 abbrev pub is_player : Option Tile → Bool
@@ -19,7 +16,7 @@ is_player (Some tile) = tile.element == 4
 
 -- whether a player tile stands at a place; outside the table nothing does
 abbrev pub is_player_at : List Tile → ℕ → ℕ → Bool
-is_player_at tiles x y = is_in_table x y && is_player (slice_get tiles (60 * (y - 1) + (x - 1)))
+is_player_at tiles x y = is_player (tile_at tiles x y)
 
 -- whether one of these stats has a place
 abbrev pub has_place : ℕ → ℕ → List StatData → Bool
@@ -33,7 +30,7 @@ player_warning n b (player ∷ others) = if is_player_at b.tiles player.x player
 -- board n: a stat outside the table, or else at the place of one of these lower stats
 abbrev pub place_warning : ℕ → List StatData → StatData → List Warning
 place_warning n lower s =
-    if not (is_in_table s.x s.y) then OffBoard n (length lower) ∷ [] else
+    if not (has_tile s.x s.y) then OffBoard n (length lower) ∷ [] else
     if has_place s.x s.y lower then SamePlace n (length lower) ∷ [] else []
 
 -- stat by stat, above these lower ones

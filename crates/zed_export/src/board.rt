@@ -8,13 +8,12 @@ ghost use Rattle.zed_view.specs.View.{board_at, stat_at};
 ghost use Rattle.zed_export.specs.World.{stat_with, exported_above, exported_properties, exported_board};
 ghost use Rattle.zed_export.specs.Fields.{board_names as names_of_boards, stat_names as names_of_stats, place_parameter, FitsStat, FitsBoard};
 
-use crate::header::copy_of;
 use crate::numbers::{BoardNames, Names, board_number, exit_number, stat_names, stat_number};
 use crate::program::program_of;
 use std::alloc::{AllocError, Global};
 use zed_document::View;
 use zed_types::{
-    BoardByte, BoardFlag, BoardText, Seq, Side, StatByte, StatNumber, ThirdParameter, Tile,
+    BoardByte, BoardFlag, BoardText, Bytes, Seq, Side, StatByte, StatNumber, ThirdParameter, Tile,
 };
 use zed_world::{BoardData, Code, Properties, StatData, is_passage};
 
@@ -103,7 +102,7 @@ fn properties_of(
         west: exit_number(boards, properties.exit(Side::West)),
         east: exit_number(boards, properties.exit(Side::East)),
         re_enter: properties.flag(BoardFlag::ReEnter),
-        message: copy_of(alloc, properties.text(BoardText::Message))?,
+        message: Bytes::from_slice(alloc, properties.text(BoardText::Message))?,
         start_x: properties.byte(BoardByte::StartX),
         start_y: properties.byte(BoardByte::StartY),
         time_limit: properties.time_limit(),
@@ -161,7 +160,7 @@ pub(crate) fn board_of(
     let stats = stats_of(alloc, view, boards, &names, i)?;
     let properties = properties_of(alloc, view, boards, i)?;
     Ok(BoardData {
-        name: copy_of(alloc, view.properties(i).text(BoardText::Name))?,
+        name: Bytes::from_slice(alloc, view.properties(i).text(BoardText::Name))?,
         tiles: *view.table(i),
         properties,
         stats,

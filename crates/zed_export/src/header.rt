@@ -42,20 +42,13 @@ fn keys_of(header: &LiveHeader) -> [bool; 7]
     ]
 }
 
-/// An equal string.
-pub(crate) fn copy_of(alloc: Global, bytes: &[u8]) -> Result<Bytes, AllocError>
-    ensures { IfOk result (λ copy. copy ≡ bytes.now) }
-{
-    Ok(Bytes::new(bytes.to_vec(alloc)?))
-}
-
 fn flags_of(alloc: Global, header: &LiveHeader) -> Result<Seq<Bytes>, AllocError>
     requires { length (shown header.now).flags ≡ 10 }
     ensures { IfOk result (λ flags. flags ≡ (shown header.now).flags) }
 {
     let mut flags = Vec::new(alloc);
     for slot in &SLOTS {
-        flags.push(copy_of(alloc, header.flag(*slot))?)?;
+        flags.push(Bytes::from_slice(alloc, header.flag(*slot))?)?;
     }
     Ok(Seq::from_vec(flags))
 }
@@ -84,7 +77,7 @@ pub(crate) fn header_of(
         torch_ticks: header.number(HeaderNumber::TorchTicks),
         energizer_ticks: header.number(HeaderNumber::EnergizerTicks),
         score: header.number(HeaderNumber::Score),
-        name: copy_of(alloc, header.world_name())?,
+        name: Bytes::from_slice(alloc, header.world_name())?,
         flags: flags_of(alloc, header)?,
         time_passed: header.number(HeaderNumber::TimePassed),
         hundredths: header.number(HeaderNumber::Hundredths),

@@ -14,12 +14,7 @@ use std::alloc::Global;
 use zed_document::View;
 use zed_runs::runs_len;
 use zed_types::TextId;
-
-/// The bytes of a body beside its runs and its stats: the name, the properties, the number of stats.
-const FRAME: usize = 51 + 86 + 2;
-
-/// The bytes of a stat beside its program.
-const STAT: usize = 33;
+use zed_world::{BODY_FRAME, STAT_FRAME};
 
 /// How many bytes the program of a stat takes above stats with these texts.
 fn program_bytes(view: &View, lower: &[Option<TextId>], text: Option<TextId>) -> usize
@@ -45,7 +40,7 @@ fn stats_bytes(alloc: Global, view: &View, i: usize) -> usize
         if !stat.removed {
             let text = stat.values.fields.text;
             let program = program_bytes(view, texts.as_slice(), text);
-            bytes = bytes.saturating_add(STAT).saturating_add(program);
+            bytes = bytes.saturating_add(STAT_FRAME).saturating_add(program);
             texts.push_reserved(text);
         }
     }
@@ -60,6 +55,6 @@ pub(crate) fn body_bytes(alloc: Global, view: &View, i: usize) -> usize
     requires message { length (board_text Message (board_at view.now i).properties) ≤ 58 }
     ensures { result ≡ told (length (body_text (exported_board view.now (board_at view.now i)))) }
 {
-    let frame = FRAME + runs_len(view.table(i));
+    let frame = BODY_FRAME + runs_len(view.table(i));
     frame.saturating_add(stats_bytes(alloc, view, i))
 }

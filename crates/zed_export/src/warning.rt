@@ -1,11 +1,11 @@
 //! What is odd about a world that can be saved.
 ghost use Rattle.std.specs.Prelude.{◌≡◌, ◌<◌, ◌≤◌, ◌+◌, ◌++◌, [], length, OnOk, OnErr, MatchResult, vec_len};
 ghost use Rattle.std.specs.Vec.{vec_capacity};
-ghost use Rattle.zed_export.specs.Warnings.{is_in_table, is_player_at, has_place, place_warnings, board_warnings, boards_warnings, warnings_of};
+ghost use Rattle.zed_export.specs.Warnings.{is_player_at, has_place, place_warnings, board_warnings, boards_warnings, warnings_of};
 
 use crate::error::ExportError;
 use std::alloc::{AllocError, Global};
-use zed_types::{PLAYER, TILES, Tile};
+use zed_types::{PLAYER, TILES, Tile, has_tile, tile_at};
 use zed_world::{BoardData, StatData, World};
 
 /// What is odd about a world, though it can be saved.
@@ -19,21 +19,13 @@ pub enum Warning {
     SamePlace(usize, usize),
 }
 
-/// Whether a place is in the table.
-fn is_inside(x: u8, y: u8) -> bool
-    ensures { result ≡ is_in_table x y }
-{
-    1 <= x && x <= 60 && 1 <= y && y <= 25
-}
-
 /// Whether there is a player tile at a place. Outside the table there is none.
 fn has_player(tiles: &[Tile; TILES], x: u8, y: u8) -> bool
     ensures { result ≡ is_player_at tiles.now x y }
 {
-    if is_inside(x, y) {
-        tiles[60 * (usize::from(y) - 1) + (usize::from(x) - 1)].element == PLAYER
-    } else {
-        false
+    match tile_at(tiles, x, y) {
+        Some(tile) => tile.element == PLAYER,
+        None => false,
     }
 }
 
@@ -52,7 +44,7 @@ fn add_places(out: &mut Vec<Warning>, number: usize, stats: &[StatData]) -> Resu
     ensures capacity { vec_capacity out.old ≤ vec_capacity out.new }
 {
     for (j, stat) in stats.iter().enumerate() {
-        if !is_inside(stat.x, stat.y) {
+        if !has_tile(stat.x, stat.y) {
             out.push(Warning::OffBoard(number, j))?;
         } else if is_taken(&stats[..j], stat.x, stat.y) {
             out.push(Warning::SamePlace(number, j))?;

@@ -5,11 +5,8 @@ ghost use Rattle.zed_fresh.specs.Fresh.{fresh_header, fresh_world, title_of};
 
 use crate::board::new_board;
 use std::alloc::{AllocError, Global};
-use zed_types::{Bytes, Seq};
+use zed_types::{Bytes, Seq, WORD_LIMIT};
 use zed_world::{BoardData, Header, World};
-
-/// Most bytes of the name of a world.
-const MOST_OF_NAME: usize = 20;
 
 /// The health of a new player.
 const HEALTH: i16 = 100;
@@ -37,9 +34,8 @@ fn name_of(alloc: Global, text: &str) -> Result<Bytes, AllocError>
     ensures { IfOk result (λ name. name ≡ take 20 text.now) }
 {
     let bytes = text.as_bytes();
-    let end = bytes.len().min(MOST_OF_NAME);
-    let name = Vec::from_slice(alloc, &bytes[..end])?;
-    Ok(Bytes::new(name))
+    let end = bytes.len().min(WORD_LIMIT);
+    Bytes::from_slice(alloc, &bytes[..end])
 }
 
 fn header(alloc: Global, name: &str) -> Result<Header, AllocError>
@@ -66,8 +62,7 @@ fn header(alloc: Global, name: &str) -> Result<Header, AllocError>
 fn title(alloc: Global) -> Result<BoardData, AllocError>
     ensures { IfOk result (λ board. board ≡ title_of new_table) }
 {
-    let name = Vec::from_slice(alloc, b"Title")?;
-    new_board(alloc, Bytes::new(name))
+    new_board(alloc, Bytes::from_slice(alloc, b"Title")?)
 }
 
 /// A world of one board, `Title`, whose player has 100 health. Its name has the first 20 bytes of

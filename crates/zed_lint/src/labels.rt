@@ -207,8 +207,8 @@ fn note_label(
     if !is_lost(stats, program, at) {
         return Ok(());
     }
-    let label = Vec::from_slice(*found.allocator(), named_label(program, at))?;
-    note(found, spot, Some(What::NoLabel(at, Bytes::new(label))))
+    let label = Bytes::from_slice(*found.allocator(), named_label(program, at))?;
+    note(found, spot, Some(What::NoLabel(at, label)))
 }
 
 /// Notes the labels that a program names, and that no program of these stats has.

@@ -9,14 +9,11 @@ use crate::labels::note_labels;
 use crate::noting::note;
 use crate::tiles::wants_stat;
 use std::alloc::AllocError;
-use zed_list::tile_at;
-use zed_types::{Place, Tile};
+use zed_types::{PASSAGE, Place, Tile, tile_at};
 use zed_world::{BoardData, Code, StatData};
 
 /// The monitor, which ZZT has in place of the player while no game is played.
 const MONITOR: u8 = 3;
-
-const PASSAGE: u8 = 11;
 
 /// The byte that ends a line of a program.
 const END: u8 = 13;

@@ -10,7 +10,8 @@ use Rattle.zed_log.specs.Fields.{number, integer, quoted, element, place}
 use Rattle.zed_log.proofs.Printed.{plain, both, number_is, integer_is, quoted_is, element_is, place_is}
 use Rattle.zed_list.specs.Boards.{board_words, exit, exits}
 use Rattle.zed_list.specs.Program.{first_line, line_words, program_bytes}
-use Rattle.zed_list.specs.Stats.{element_of, fields, program_words, stat_words, tile_at}
+use Rattle.zed_list.specs.Stats.{element_of, fields, program_words, stat_words}
+use Rattle.zed_types.specs.Table.{tile_at}
 
 -- ---- boards
 

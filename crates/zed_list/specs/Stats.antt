@@ -1,20 +1,13 @@
 -- The lines of stats.
-use Rattle.std.specs.Prelude.{ℕ, ◌+◌, ◌-◌, ◌*◌, Bool, ◌&&◌, nat_le, if◌then◌else◌, List, [], ◌∷◌, ◌++◌, length, codes, slice_get, Option, Some, None}
+use Rattle.std.specs.Prelude.{ℕ, ◌+◌, List, [], ◌∷◌, ◌++◌, length, codes, Option, Some, None}
 use Rattle.zed_types.specs.declared.tile.Tile.{Tile}
+use Rattle.zed_types.specs.Table.{tile_at}
 use Rattle.zed_world.specs.declared.board.BoardData.{BoardData}
 use Rattle.zed_world.specs.declared.stat.Code.{Code}
 use Rattle.zed_world.specs.declared.stat.Code.TheVariants as code
 use Rattle.zed_world.specs.declared.stat.StatData.{StatData}
 use Rattle.zed_log.specs.Fields.{number, integer, quoted, element, place}
 use Rattle.zed_list.specs.Program.{first_line, program_bytes}
-
--- whether a column and a row are in the table
-abbrev pub is_in_table : ℕ → ℕ → Bool
-is_in_table x y = nat_le 1 x && nat_le x 60 && nat_le 1 y && nat_le y 25
-
--- the tile at a place of a table, if the place is in it
-abbrev pub tile_at : List Tile → ℕ → ℕ → Option Tile
-tile_at tiles x y = if is_in_table x y then slice_get tiles (60 * (y - 1) + (x - 1)) else None
 
 -- the element of a tile by its word and number, or `-` (45) where there is no tile
 abbrev pub element_of : Option Tile → List ℕ

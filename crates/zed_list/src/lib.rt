@@ -10,4 +10,4 @@ mod stat_lines;
 pub use board_lines::boards;
 pub use laws::{each_is_on_its_line, lines_are_the_program};
 pub use program_lines::program;
-pub use stat_lines::{put_element_of, stats, tile_at};
+pub use stat_lines::{put_element_of, stats};

@@ -1,23 +1,12 @@
 //! The lines of stats.
 ghost use Rattle.std.specs.Prelude.{◌≡◌, ◌++◌, IfOk, OnErr, OnOk, option_copied};
-ghost use Rattle.zed_list.specs.Stats.{element_of, fields, program_words, stat_line, stat_lines, stats_text, tile_at};
+ghost use Rattle.zed_list.specs.Stats.{element_of, fields, program_words, stat_line, stat_lines, stats_text};
 
 use crate::program_lines::{first_line, program_bytes};
 use std::alloc::{AllocError, Global};
 use zed_log::{put_element, put_integer, put_number, put_place, put_quoted, put_text};
-use zed_types::{TILES, Tile};
+use zed_types::{Tile, tile_at};
 use zed_world::{BoardData, Code, StatData};
-
-/// The tile at a place. Outside the table there is none.
-pub fn tile_at(tiles: &[Tile; TILES], x: u8, y: u8) -> Option<Tile>
-    ensures { result ≡ tile_at tiles.now x y }
-{
-    if 1 <= x && x <= 60 && 1 <= y && y <= 25 {
-        Some(tiles[60 * (usize::from(y) - 1) + (usize::from(x) - 1)])
-    } else {
-        None
-    }
-}
 
 /// Appends the element of a tile by its word and number, or `-` if there is no tile.
 pub fn put_element_of(out: &mut Vec<u8>, tile: Option<Tile>) -> Result<(), AllocError>

@@ -8,6 +8,7 @@ use crate::glyphs::put_glyph;
 use crate::look::{Picture, Spot};
 use crate::parts::{put_number, put_text};
 use std::alloc::AllocError;
+use zed_types::COLUMNS;
 
 /// What a terminal calls the colour of a character.
 fn ink_code(colour: u8) -> u8
@@ -56,7 +57,7 @@ fn put_row(out: &mut Vec<u8>, row: &[Spot]) -> Result<(), AllocError>
     put_text(out, "\x1B[0m\n")
 }
 
-fn put_rows(out: &mut Vec<u8>, rows: &[[Spot; 60]]) -> Result<(), AllocError>
+fn put_rows(out: &mut Vec<u8>, rows: &[[Spot; COLUMNS]]) -> Result<(), AllocError>
     ensures { OnOk result (out.new.items ≡ out.old.items ++ flat_map (coloured_row None) rows.now) }
 {
     for row in rows {

@@ -8,7 +8,7 @@ use crate::look::{Picture, Pose, Spot};
 use crate::tiles::spot_of;
 use zed_play::Play;
 use zed_scene::{Scene, Stat, tile_in};
-use zed_types::{Place, Tile};
+use zed_types::{COLUMNS, Place, ROWS, TILES, Tile};
 use zed_world::{BoardData, StatData, World};
 
 /// What is drawn over.
@@ -77,7 +77,7 @@ fn pose_at(stats: &[StatData], place: Place) -> Pose
 }
 
 /// Whether a line wall joins what is at a place.
-fn joins(tiles: &[Tile; 1500], x: u8, y: u8) -> bool
+fn joins(tiles: &[Tile; TILES], x: u8, y: u8) -> bool
     ensures { result ≡ joins tiles.now x y }
 {
     let tile = tile_in(tiles, Place { x, y });
@@ -93,7 +93,7 @@ fn weight(is_joined: bool, value: u8) -> u8
 
 /// Which neighbours of a place a line wall there joins.
 #[tactic(auto, unfolding(crate::specs::Drawing::joined_at))]
-fn joined_at(tiles: &[Tile; 1500], place: Place) -> u8
+fn joined_at(tiles: &[Tile; TILES], place: Place) -> u8
     requires x { (1 ≤ place.x) × (place.x ≤ 60) }
     requires y { (1 ≤ place.y) × (place.y ≤ 25) }
     ensures { result ≡ joined_at tiles.now place }
@@ -118,7 +118,7 @@ fn place_of(column: usize, row: usize) -> Place
 }
 
 /// What is shown of a tile at a place of the table.
-fn shown_of(tiles: &[Tile; 1500], pose: Pose, tick: u16, place: Place) -> Spot
+fn shown_of(tiles: &[Tile; TILES], pose: Pose, tick: u16, place: Place) -> Spot
     requires x { (1 ≤ place.x) × (place.x ≤ 60) }
     requires y { (1 ≤ place.y) × (place.y ≤ 25) }
     ensures { result ≡ shown_of tiles.now pose tick place }
@@ -202,14 +202,14 @@ fn played_at(play: &Play, row: usize, column: usize) -> Spot
     scene_at(play.board(), play.tick(), row, column)
 }
 
-fn put_spot(spots: &mut [Spot; 60], column: usize, spot: Spot)
+fn put_spot(spots: &mut [Spot; COLUMNS], column: usize, spot: Spot)
     requires { column < 60 }
     ensures { spots.new ≡ slice_set spots.old column spot }
 {
     spots[column] = spot;
 }
 
-fn put_row(rows: &mut [[Spot; 60]; 25], row: usize, spots: [Spot; 60])
+fn put_row(rows: &mut [[Spot; COLUMNS]; ROWS], row: usize, spots: [Spot; COLUMNS])
     requires { row < 25 }
     ensures { rows.new ≡ slice_set rows.old row spots }
 {
@@ -217,11 +217,11 @@ fn put_row(rows: &mut [[Spot; 60]; 25], row: usize, spots: [Spot; 60])
 }
 
 #[tactic(auto, using(crate::proofs::Filling::one_more))]
-fn row_of(board: &BoardData, tick: u16, row: usize) -> [Spot; 60]
+fn row_of(board: &BoardData, tick: u16, row: usize) -> [Spot; COLUMNS]
     requires { row < 25 }
     ensures { result ≡ row_of (shown_at board.now tick) row }
 {
-    let mut spots = [BLANK; 60];
+    let mut spots = [BLANK; COLUMNS];
     for column in 0..60_usize {
         put_spot(&mut spots, column, shown_at(board, tick, row, column));
     }
@@ -233,7 +233,7 @@ fn row_of(board: &BoardData, tick: u16, row: usize) -> [Spot; 60]
 pub fn draw(board: &BoardData, tick: u16) -> Picture
     ensures { result ≡ board_picture tick board.now }
 {
-    let mut rows = [[BLANK; 60]; 25];
+    let mut rows = [[BLANK; COLUMNS]; ROWS];
     for row in 0..25_usize {
         put_row(&mut rows, row, row_of(board, tick, row));
     }
@@ -242,11 +242,11 @@ pub fn draw(board: &BoardData, tick: u16) -> Picture
 
 /// A row of the picture of a board in play, counted from 0. It takes no memory.
 #[tactic(auto, using(crate::proofs::Filling::one_more))]
-pub fn draw_play_row(play: &Play, row: usize) -> [Spot; 60]
+pub fn draw_play_row(play: &Play, row: usize) -> [Spot; COLUMNS]
     requires { row < 25 }
     ensures { result ≡ row_of (played_at play.now) row }
 {
-    let mut spots = [BLANK; 60];
+    let mut spots = [BLANK; COLUMNS];
     for column in 0..60_usize {
         put_spot(&mut spots, column, played_at(play, row, column));
     }
@@ -257,7 +257,7 @@ pub fn draw_play_row(play: &Play, row: usize) -> [Spot; 60]
 pub fn draw_play(play: &Play) -> Picture
     ensures { result ≡ picture_of (played_at play.now) }
 {
-    let mut rows = [[BLANK; 60]; 25];
+    let mut rows = [[BLANK; COLUMNS]; ROWS];
     for row in 0..25_usize {
         put_row(&mut rows, row, draw_play_row(play, row));
     }

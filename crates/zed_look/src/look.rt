@@ -1,4 +1,6 @@
-//! Pictures of 60 by 25 places, and what they are made from.
+//! Pictures of as many places as a board has, and what they are made from.
+
+use zed_types::{COLUMNS, ROWS};
 
 /// What is shown at one place.
 #[derive(Clone, Copy, Debug)]
@@ -12,7 +14,7 @@ pub struct Spot {
 /// A picture of the table of a board, row by row.
 #[derive(Clone, Copy, Debug)]
 pub struct Picture {
-    pub rows: [[Spot; 60]; 25],
+    pub rows: [[Spot; COLUMNS]; ROWS],
 }
 
 /// What a picture shows of a stat.

@@ -7,6 +7,7 @@ use crate::glyphs::put_glyph;
 use crate::look::{Picture, Spot};
 use crate::parts::put_text;
 use std::alloc::AllocError;
+use zed_types::COLUMNS;
 
 fn put_characters(out: &mut Vec<u8>, row: &[Spot]) -> Result<(), AllocError>
     ensures { OnOk result (out.new.items ≡ out.old.items ++ characters_of row.now) }
@@ -24,7 +25,7 @@ fn put_row(out: &mut Vec<u8>, row: &[Spot]) -> Result<(), AllocError>
     put_text(out, "\n")
 }
 
-fn put_rows(out: &mut Vec<u8>, rows: &[[Spot; 60]]) -> Result<(), AllocError>
+fn put_rows(out: &mut Vec<u8>, rows: &[[Spot; COLUMNS]]) -> Result<(), AllocError>
     ensures { OnOk result (out.new.items ≡ out.old.items ++ flat_map plain_row rows.now) }
 {
     for row in rows {

@@ -7,6 +7,7 @@ use crate::glyphs::put_glyph;
 use crate::look::{Picture, Spot};
 use crate::parts::{put_number, put_text};
 use std::alloc::AllocError;
+use zed_types::{COLUMNS, ROWS};
 
 /// The colour behind a place: a solid wall fills it with its own.
 fn back(spot: Spot) -> u8
@@ -193,7 +194,7 @@ fn put_row(out: &mut Vec<u8>, row: u32, spots: &[Spot]) -> Result<(), AllocError
     }
 }
 
-fn put_rows(out: &mut Vec<u8>, rows: &[[Spot; 60]; 25]) -> Result<(), AllocError>
+fn put_rows(out: &mut Vec<u8>, rows: &[[Spot; COLUMNS]; ROWS]) -> Result<(), AllocError>
     ensures { OnOk result (out.new.items ≡ out.old.items ++ svg_rows 0 rows.now) }
 {
     let mut row = 0;
@@ -205,7 +206,7 @@ fn put_rows(out: &mut Vec<u8>, rows: &[[Spot; 60]; 25]) -> Result<(), AllocError
 }
 
 #[tactic(auto, unfolding(crate::specs::Svg::svg_text))]
-fn put_all(out: &mut Vec<u8>, rows: &[[Spot; 60]; 25]) -> Result<(), AllocError>
+fn put_all(out: &mut Vec<u8>, rows: &[[Spot; COLUMNS]; ROWS]) -> Result<(), AllocError>
     ensures { OnOk result (out.new.items ≡ out.old.items ++ svg_text rows.now) }
 {
     put_ended(

@@ -49,7 +49,7 @@ fn fail(alloc: Global, scene: &mut Scene, lines: &mut Seq<Bytes>) -> Result<(), 
     ensures tells { OnOk result (lines.new ≡ lines.old ++ codes "ERR" ∷ []) }
 {
     set_position(scene, None);
-    let text = Bytes::new(Vec::from_slice(alloc, b"ERR".as_slice())?);
+    let text = Bytes::from_slice(alloc, b"ERR")?;
     lines.push(text)?;
     Ok(())
 }

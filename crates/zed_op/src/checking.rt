@@ -12,22 +12,13 @@ use crate::naming::all_named;
 use crate::op::{Edit, Op};
 use std::alloc::Global;
 use zed_types::{
-    BoardId, BoardSetting, BoardText, Bytes, COLUMNS, HeaderSetting, READ_BODY_LIMIT, ROWS,
-    Rectangle, Stamp,
+    BoardId, BoardSetting, BoardText, Bytes, COLUMNS, HeaderSetting, MESSAGE_LIMIT, NAME_LIMIT,
+    READ_BODY_LIMIT, ROWS, Rectangle, Stamp, WORD_LIMIT,
 };
 use zed_world::is_canonical;
 
 /// Most bytes that one edit puts into a text: as many as a board's body may have.
 const MOST_INSERTED: usize = READ_BODY_LIMIT;
-
-/// Most bytes of a world's name, and of a flag.
-const MOST_OF_WORD: usize = 20;
-
-/// Most bytes of a board's name.
-const MOST_OF_NAME: usize = 50;
-
-/// Most bytes of a board's message.
-const MOST_OF_MESSAGE: usize = 58;
 
 fn is_author_stamp(stamp: Stamp) -> bool
     ensures { result ≡ is_author_stamp stamp }
@@ -78,7 +69,7 @@ fn is_header_in_range(setting: &HeaderSetting) -> bool
 {
     match setting {
         HeaderSetting::WorldName(word) | HeaderSetting::Flag(_, word) => {
-            word.as_slice().len() <= MOST_OF_WORD
+            word.as_slice().len() <= WORD_LIMIT
         }
         _ => true,
     }
@@ -88,8 +79,8 @@ fn most_of(text: BoardText) -> usize
     ensures { result ≡ most_of text }
 {
     match text {
-        BoardText::Name => MOST_OF_NAME,
-        BoardText::Message => MOST_OF_MESSAGE,
+        BoardText::Name => NAME_LIMIT,
+        BoardText::Message => MESSAGE_LIMIT,
     }
 }
 
@@ -107,7 +98,7 @@ fn is_in_range(op: &Op) -> bool
 {
     match op {
         Op::SetHeader(setting) => is_header_in_range(setting),
-        Op::BoardAdd(name) => name.as_slice().len() <= MOST_OF_NAME,
+        Op::BoardAdd(name) => name.as_slice().len() <= NAME_LIMIT,
         Op::BoardRemove(board) => *board != BoardId::TITLE,
         Op::SetBoard(_, setting) => is_property_in_range(setting),
         Op::SetCells(_, cells, _) => is_in_table(cells),

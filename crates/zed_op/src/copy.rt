@@ -1,21 +1,10 @@
 //! Equal edits.
-
 ghost use Rattle.std.specs.Prelude.{◌≡◌, IfOk, IfErr, true};
-ghost use Rattle.zed_types.specs.Strings.{has_bytes};
 ghost use Rattle.zed_op.specs.Growth.{has_string};
 ghost use Rattle.zed_op.specs.declared.cause.EditError.TheVariants.{Memory};
 
 use crate::cause::EditError;
 use crate::op::{Edit, Op};
-use zed_types::Bytes;
-
-fn copy_bytes(bytes: &Bytes) -> Result<Bytes, EditError>
-    ensures ok { IfOk result (λ b. b ≡ bytes.now) }
-    ensures err { IfErr result (λ e. e ≡ Memory) }
-    ensures memory_only_when { IfErr result (λ e. has_bytes bytes.now ≡ true) }
-{
-    Ok(bytes.copy()?)
-}
 
 impl Op {
     fn copy(&self) -> Result<Op, EditError>
@@ -24,9 +13,9 @@ impl Op {
         ensures memory_only_when { IfErr result (λ e. has_string self.now ≡ true) }
     {
         Ok(match self {
-            Op::Genesis(bytes) => Op::Genesis(copy_bytes(bytes)?),
+            Op::Genesis(bytes) => Op::Genesis(bytes.copy()?),
             Op::SetHeader(setting) => Op::SetHeader(setting.copy()?),
-            Op::BoardAdd(name) => Op::BoardAdd(copy_bytes(name)?),
+            Op::BoardAdd(name) => Op::BoardAdd(name.copy()?),
             Op::BoardRemove(board) => Op::BoardRemove(*board),
             Op::SetBoard(board, setting) => Op::SetBoard(*board, setting.copy()?),
             Op::SetCells(board, cells, tile) => Op::SetCells(*board, *cells, *tile),
@@ -34,9 +23,7 @@ impl Op {
             Op::StatRemove(stat) => Op::StatRemove(*stat),
             Op::SetStat(stat, setting) => Op::SetStat(*stat, *setting),
             Op::TextAdd => Op::TextAdd,
-            Op::TextInsert(text, after, bytes) => {
-                Op::TextInsert(*text, *after, copy_bytes(bytes)?)
-            }
+            Op::TextInsert(text, after, bytes) => { Op::TextInsert(*text, *after, bytes.copy()?) }
             Op::TextDelete(text, range) => Op::TextDelete(*text, *range),
         })
     }

@@ -10,14 +10,8 @@ use crate::piece::piece_of;
 use crate::play::Play;
 use std::alloc::{AllocError, Global};
 use zed_oop::{Counters, PLAYER, Scene, Step, ahead, is_walkable, tile_in};
-use zed_types::{Place, Side, Tile};
+use zed_types::{COLUMNS, PASSAGE, Place, ROWS, Side, TILES, Tile};
 use zed_world::{BoardData, World};
-
-/// The element of a passage.
-const PASSAGE: u8 = 11;
-
-/// How many places a table has.
-const PLACES: u16 = 1500;
 
 /// How a player comes from one board to another.
 #[derive(Clone, Copy, Debug)]
@@ -60,9 +54,15 @@ fn beyond(side: Side, from: Place) -> Place
     ensures { result ≡ beyond side from }
 {
     match side {
-        Side::North => Place { x: from.x, y: 25 },
+        Side::North => Place {
+            x: from.x,
+            y: ROWS as u8,
+        },
         Side::South => Place { x: from.x, y: 1 },
-        Side::West => Place { x: 60, y: from.y },
+        Side::West => Place {
+            x: COLUMNS as u8,
+            y: from.y,
+        },
         Side::East => Place { x: 1, y: from.y },
     }
 }
@@ -85,7 +85,7 @@ fn is_passage(colour: u8, tile: Tile) -> bool
 }
 
 /// The last passage of a colour among so many places.
-fn passage_among(tiles: &[Tile; 1500], colour: u8, count: u16) -> Option<Place>
+fn passage_among(tiles: &[Tile; TILES], colour: u8, count: u16) -> Option<Place>
     requires { count ≤ 1500 }
     ensures { result ≡ passage_among count colour tiles.now }
 {
@@ -102,10 +102,10 @@ fn passage_among(tiles: &[Tile; 1500], colour: u8, count: u16) -> Option<Place>
 
 /// The last passage of a colour on a board, which is where ZZT puts the player.
 #[tactic(auto, unfolding(crate::specs::Entering::last_passage))]
-fn last_passage(tiles: &[Tile; 1500], colour: u8) -> Option<Place>
+fn last_passage(tiles: &[Tile; TILES], colour: u8) -> Option<Place>
     ensures { result ≡ last_passage colour tiles.now }
 {
-    passage_among(tiles, colour, PLACES)
+    passage_among(tiles, colour, TILES as u16)
 }
 
 /// Takes away what is under the player.

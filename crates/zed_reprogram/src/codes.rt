@@ -48,7 +48,7 @@ fn owned(alloc: Global, program: &[u8]) -> Result<Code, AllocError>
     if program.is_empty() {
         return Ok(Code::None);
     }
-    Ok(Code::Own(Bytes::new(program.to_vec(alloc)?)))
+    Ok(Code::Own(Bytes::from_slice(alloc, program)?))
 }
 
 /// The program of a stat of this number, on a board whose stat `owner` gets these bytes.

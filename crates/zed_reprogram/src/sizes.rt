@@ -7,14 +7,7 @@ ghost use Rattle.zed_reprogram.specs.Sizes.{CanBeCounted};
 
 use zed_runs::runs_len;
 use zed_types::READ_BODY_LIMIT;
-use zed_world::{BoardData, Code, StatData};
-
-/// The bytes of a body beside its runs and its stats: the name, the properties, the number of
-/// stats.
-const FRAME: usize = 51 + 86 + 2;
-
-/// The bytes of a stat beside its program.
-const STAT: usize = 33;
+use zed_world::{BODY_FRAME, BoardData, Code, STAT_FRAME, StatData};
 
 /// A board that is over the limit: its number and its bytes.
 #[derive(Clone, Copy)]
@@ -39,7 +32,7 @@ fn stats_len(stats: &[StatData]) -> usize
 {
     let mut bytes = 0;
     for stat in stats {
-        let more = STAT + code_len(&stat.code);
+        let more = STAT_FRAME + code_len(&stat.code);
         bytes += more;
     }
     bytes
@@ -49,7 +42,7 @@ fn body_len(board: &BoardData) -> usize
     requires { CanBeCounted board.now }
     ensures { result ≡ length (body_text board.now) }
 {
-    FRAME + runs_len(&board.tiles) + stats_len(board.stats.as_slice())
+    BODY_FRAME + runs_len(&board.tiles) + stats_len(board.stats.as_slice())
 }
 
 /// Refuses the first board that would have more bytes than a file can spell.

@@ -1,6 +1,7 @@
 -- Places, and where steps lead.
 use Rattle.std.specs.Prelude.{ℕ, ℤ, pos, negsuc, ◌+ℤ◌, ◌-◌, suc, zero, Bool, ◌&&◌, nat_le, nat_lt, ◌==◌, if◌then◌else◌, Option, Some, None, option_and_then}
 use Rattle.zed_types.specs.declared.tile.Place.{Place}
+use Rattle.zed_types.specs.Table.{has_tile}
 use Rattle.zed_scene.specs.declared.step.Step.{Step}
 
 infixl 10 ◌>>=◌
@@ -8,9 +9,9 @@ infixl 10 ◌>>=◌
 abbrev pub ◌>>=◌ : {A B : Type 0} → Option A → (A → Option B) → Option B
 o >>= f = option_and_then f o
 
--- whether a place is in the table: columns 1 to 60, rows 1 to 25
+-- whether a place is in the table
 abbrev pub is_on_board : Place → Bool
-is_on_board p = nat_le 1 p.x && nat_le p.x 60 && nat_le 1 p.y && nat_le p.y 25
+is_on_board p = has_tile p.x p.y
 
 -- a number if it is 1 to `most`
 abbrev pub up_to : ℕ → ℤ → Option ℕ

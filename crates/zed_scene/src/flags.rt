@@ -1,5 +1,5 @@
 //! Flags.
-ghost use Rattle.std.specs.Prelude.{◌≡◌, ◌≢◌, ◌<◌, IfOk, IfSome, OnOk, OnErr, [], if◌then◌else◌, length, position};
+ghost use Rattle.std.specs.Prelude.{◌≡◌, ◌≢◌, ◌<◌, IfSome, OnOk, OnErr, [], if◌then◌else◌, length, position};
 ghost use Rattle.std.specs.Str.{bytes_eq};
 ghost use Rattle.zed_scene.specs.Flags.{cut, flagged, has_flag, is_free, unflagged, with_flags};
 
@@ -21,12 +21,6 @@ fn cut(word: &[u8]) -> &[u8]
     if word.len() > 20 { &word[..20] } else { word }
 }
 
-fn copy_of(alloc: Global, word: &[u8]) -> Result<Bytes, AllocError>
-    ensures { IfOk result (λ b. b ≡ word.now) }
-{
-    Ok(Bytes::new(Vec::from_slice(alloc, word)?))
-}
-
 /// The first empty flag.
 fn first_free(flags: &[Bytes]) -> Option<usize>
     ensures result { result ≡ position is_free flags.now }
@@ -45,7 +39,7 @@ fn put_flag(alloc: Global, flags: &mut Seq<Bytes>, word: &[u8]) -> Result<(), Al
 {
     if !has_flag(flags.as_slice(), word) {
         if let Some(i) = first_free(flags.as_slice()) {
-            let own = copy_of(alloc, word)?;
+            let own = Bytes::from_slice(alloc, word)?;
             flags.set(i, own);
         }
     }

@@ -6,12 +6,12 @@ use crate::counters::Counters;
 use crate::stat::Stat;
 use crate::step::is_on_board;
 use std::marker::Model;
-use zed_types::{Bytes, Place, Seq, Tile};
+use zed_types::{Bytes, COLUMNS, Place, Seq, TILES, Tile};
 
 /// A board in play, with ten flags. Contracts see it as the record of what it holds.
 #[derive(Debug, Drop)]
 pub struct Scene {
-    pub(crate) tiles: [Tile; 1500],
+    pub(crate) tiles: [Tile; TILES],
     pub(crate) stats: Seq<Stat>,
     pub(crate) programs: Seq<Bytes>,
     pub(crate) counters: Counters,
@@ -39,22 +39,22 @@ const EDGE: Tile = Tile {
 };
 
 /// The tile at a place of a table; outside the table it is element 1.
-pub fn tile_in(tiles: &[Tile; 1500], place: Place) -> Tile
+pub fn tile_in(tiles: &[Tile; TILES], place: Place) -> Tile
     ensures result { result ≡ tile_at tiles.now place }
 {
     if is_on_board(place) {
-        let index = (usize::from(place.y) - 1) * 60 + (usize::from(place.x) - 1);
+        let index = (usize::from(place.y) - 1) * COLUMNS + (usize::from(place.x) - 1);
         tiles[index]
     } else {
         EDGE
     }
 }
 
-fn put_in(tiles: &mut [Tile; 1500], place: Place, tile: Tile)
+fn put_in(tiles: &mut [Tile; TILES], place: Place, tile: Tile)
     ensures { tiles.new ≡ with_tile tiles.old place tile }
 {
     if is_on_board(place) {
-        let index = (usize::from(place.y) - 1) * 60 + (usize::from(place.x) - 1);
+        let index = (usize::from(place.y) - 1) * COLUMNS + (usize::from(place.x) - 1);
         tiles[index] = tile;
     }
 }
@@ -71,7 +71,7 @@ fn lowest_at(stats: &[Stat], place: Place) -> Option<usize>
 impl Scene {
     /// A board on which no stat acts yet. There are ten flags, of at most 20 bytes each; stats name their programs by number.
     pub fn new(
-        tiles: [Tile; 1500],
+        tiles: [Tile; TILES],
         stats: Seq<Stat>,
         programs: Seq<Bytes>,
         counters: Counters,
@@ -93,7 +93,7 @@ impl Scene {
     }
 
     /// The tiles, row after row.
-    pub fn tiles(&self) -> &[Tile; 1500]
+    pub fn tiles(&self) -> &[Tile; TILES]
         ensures result { result.now ≡ self.now.tiles }
     {
         &self.tiles

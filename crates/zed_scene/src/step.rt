@@ -2,7 +2,7 @@
 ghost use Rattle.std.specs.Prelude.{◌≡◌, ℤ};
 ghost use Rattle.zed_scene.specs.Places.{ahead, apart, moved, clockwise, counter_clockwise, negated, opposite, sign_of, is_on_board};
 
-use zed_types::Place;
+use zed_types::{COLUMNS, Place, ROWS, has_tile};
 
 /// A direction, or the step of a stat: how far it leads along the columns and along the rows.
 #[derive(Clone, Copy, Debug, PartialEq, Eq)]
@@ -27,7 +27,7 @@ impl Step {
 pub fn is_on_board(place: Place) -> bool
     ensures result { result ≡ is_on_board place }
 {
-    1 <= place.x && place.x <= 60 && 1 <= place.y && place.y <= 25
+    has_tile(place.x, place.y)
 }
 
 /// The column or row that a step leads to, or None if it isn't 1 to `most`.
@@ -46,8 +46,8 @@ fn moved(from: u8, by: i16, most: u8) -> Option<u8>
 pub fn ahead(place: Place, step: Step) -> Option<Place>
     ensures result { result ≡ ahead place step }
 {
-    let x = moved(place.x, step.x, 60)?;
-    let y = moved(place.y, step.y, 25)?;
+    let x = moved(place.x, step.x, COLUMNS as u8)?;
+    let y = moved(place.y, step.y, ROWS as u8)?;
     Some(Place { x, y })
 }
 

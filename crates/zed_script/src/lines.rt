@@ -79,12 +79,6 @@ fn begun_at(program: &[u8], at: usize) -> LineKind
     begun_by(program.get(at).copied())
 }
 
-fn copy_of(alloc: Global, bytes: &[u8]) -> Result<Bytes, AllocError>
-    ensures { IfOk result (λ b. b ≡ bytes.now) }
-{
-    Ok(Bytes::new(Vec::from_slice(alloc, bytes)?))
-}
-
 #[tactic(auto, unfolding(crate::specs::Line::line_text))]
 /// The line at a place, without its end.
 fn line_text(program: &[u8], at: usize) -> &[u8]
@@ -121,7 +115,7 @@ pub fn standing_at(
         }
         LineKind::Command => Ok((Instruction::Command, at + 1)),
         LineKind::Message => {
-            let text = copy_of(alloc, line_text(program, at))?;
+            let text = Bytes::from_slice(alloc, line_text(program, at))?;
             Ok((Instruction::Message(text), line_after(program, at)))
         }
     }

@@ -8,13 +8,7 @@ use crate::heads::{PropertyWord, property};
 use crate::thing;
 use crate::value::{behind, byte, column_and_row, exit_place, flag, number, rank, text};
 use crate::wishes::BoardWish;
-use zed_types::{BoardByte, BoardFlag, BoardText};
-
-/// Most bytes of a board's name.
-const MOST_OF_NAME: usize = 50;
-
-/// Most bytes of a board's message.
-const MOST_OF_MESSAGE: usize = 58;
+use zed_types::{BoardByte, BoardFlag, BoardText, MESSAGE_LIMIT, NAME_LIMIT};
 
 #[tactic(auto, unfolding(crate::specs::Rows::board_byte))]
 fn board_byte<'a>(field: BoardByte, words: &[&'a str]) -> Result<BoardWish<'a>, Stop>
@@ -34,7 +28,7 @@ fn board_flag<'a>(field: BoardFlag, words: &[&'a str]) -> Result<BoardWish<'a>, 
 fn board_name<'a>(words: &[&'a str]) -> Result<BoardWish<'a>, Stop>
     ensures { result ≡ rows.board_name (words_of words.now) }
 {
-    let name = text(words, MOST_OF_NAME, Expected::NameText)?;
+    let name = text(words, NAME_LIMIT, Expected::NameText)?;
     Ok(BoardWish::Text(BoardText::Name, name))
 }
 
@@ -42,7 +36,7 @@ fn board_name<'a>(words: &[&'a str]) -> Result<BoardWish<'a>, Stop>
 fn message<'a>(words: &[&'a str]) -> Result<BoardWish<'a>, Stop>
     ensures { result ≡ rows.message (words_of words.now) }
 {
-    let message = text(words, MOST_OF_MESSAGE, Expected::MessageText)?;
+    let message = text(words, MESSAGE_LIMIT, Expected::MessageText)?;
     Ok(BoardWish::Text(BoardText::Message, message))
 }
 

@@ -10,10 +10,7 @@ use crate::heads::{RegisterWord, register};
 use crate::thing;
 use crate::value::{behind, board_place, flag, number, text};
 use crate::wishes::WorldWish;
-use zed_types::HeaderNumber;
-
-/// Most bytes of a world's name, and of a flag.
-const MOST_OF_WORD: usize = 20;
+use zed_types::{HeaderNumber, WORD_LIMIT};
 
 #[tactic(auto, unfolding(crate::specs::Rows::world_number))]
 fn world_number<'a>(field: HeaderNumber, words: &[&'a str]) -> Result<WorldWish<'a>, Stop>
@@ -55,7 +52,7 @@ fn world_flag<'a>(words: &[&'a str]) -> Result<WorldWish<'a>, Stop>
         return Err(stopped(words, Expected::FlagNumber));
     };
     let slot = thing::slot(word).ok_or(stopped(words, Expected::FlagNumber))?;
-    let name = text(rest, MOST_OF_WORD, Expected::ShortText)?;
+    let name = text(rest, WORD_LIMIT, Expected::ShortText)?;
     Ok(WorldWish::Flag(slot, name))
 }
 
@@ -85,7 +82,7 @@ fn current_board<'a>(words: &[&'a str]) -> Result<WorldWish<'a>, Stop>
 fn world_name<'a>(words: &[&'a str]) -> Result<WorldWish<'a>, Stop>
     ensures { result ≡ rows.world_name (words_of words.now) }
 {
-    let name = text(words, MOST_OF_WORD, Expected::ShortText)?;
+    let name = text(words, WORD_LIMIT, Expected::ShortText)?;
     Ok(WorldWish::Name(name))
 }
 

@@ -8,10 +8,6 @@ use zed_document::{View, append_names};
 use zed_op::Op;
 use zed_types::{ByteRange, Bytes, ElemId, TextId};
 
-fn bytes_of(alloc: Global, bytes: &[u8]) -> Result<Bytes, AllocError> {
-    Ok(Bytes::new(Vec::from_slice(alloc, bytes)?))
-}
-
 // The names of the live bytes of a text, which is so long.
 fn names_of(
     alloc: Global,
@@ -45,7 +41,7 @@ fn plan_insert(
         return Ok(());
     }
     let after = name_before(names, place);
-    plan.add(Op::TextInsert(text, after, bytes_of(alloc, bytes)?))?;
+    plan.add(Op::TextInsert(text, after, Bytes::from_slice(alloc, bytes)?))?;
     Ok(())
 }
 
@@ -145,6 +141,6 @@ pub(crate) fn plan_new_text(
 ) -> Result<TextId, PlanError> {
     let stamp = plan.add(Op::TextAdd)?;
     let text = TextId::new(stamp, 0);
-    plan.add(Op::TextInsert(text, None, bytes_of(alloc, bytes)?))?;
+    plan.add(Op::TextInsert(text, None, Bytes::from_slice(alloc, bytes)?))?;
     Ok(text)
 }

@@ -1,7 +1,8 @@
 -- The lines of the edits that a filter asks for.
-use Rattle.std.specs.Prelude.{ℕ, nat_le, Bool, ◌&&◌, if◌then◌else◌, List, filter, Option, Some, None, Result, Ok, Err}
+use Rattle.std.specs.Prelude.{ℕ, Bool, if◌then◌else◌, List, filter, Option, Some, None, Result, Ok, Err}
 use Rattle.zed_types.specs.declared.names.BoardId.{BoardId}
 use Rattle.zed_types.specs.declared.tile.Place.{Place}
+use Rattle.zed_types.specs.Table.{has_tile}
 use Rattle.zed_op.specs.declared.op.Edit.{Edit}
 use Rattle.zed_edit.specs.declared.plain.Plain.{Plain}
 use Rattle.zed_edit.specs.Numbers.{board_numbered}
@@ -27,7 +28,7 @@ named_board p n = board_or_none (board_numbered p n)
 
 -- a place of the table, or OutOfRange
 abbrev pub place_of : ℕ → ℕ → Result Place Refusal
-place_of x y = if nat_le 1 x && nat_le x 60 && nat_le 1 y && nat_le y 25 then Ok (record { x = x; y = y }) else Err OutOfRange
+place_of x y = if has_tile x y then Ok (record { x = x; y = y }) else Err OutOfRange
 
 -- a value is there then, and a refusal stays
 abbrev pub there : {X : Type 0} → Result X Refusal → Result (Option X) Refusal

@@ -6,7 +6,7 @@ ghost use Rattle.zed_telling.specs.Logged.{board_sought, cell_at, cell_sought, n
 use crate::filter::Filter;
 use zed_document::Document;
 use zed_files::Refusal;
-use zed_types::{BoardId, Place};
+use zed_types::{BoardId, COLUMNS, Place, ROWS};
 
 /// A cell of a board.
 #[derive(Clone, Copy)]
@@ -40,7 +40,7 @@ fn named_board(document: &Document, number: u16) -> Result<BoardId, Refusal>
 fn place_of(x: u16, y: u16) -> Result<Place, Refusal>
     ensures { result ≡ place_of x y }
 {
-    if 1 <= x && x <= 60 && 1 <= y && y <= 25 {
+    if 1 <= x && usize::from(x) <= COLUMNS && 1 <= y && usize::from(y) <= ROWS {
         Ok(Place {
             x: x as u8,
             y: y as u8,

@@ -1,11 +1,9 @@
 -- The skip rule where no byte is of a later edit, and deletions over two parts of a text.
-use Rattle.std.proofs.Common.{◌≡◌, false, List, [], ◌∷◌, ◌++◌, Option, Some, None, refl, ap, sym, append-nil}
-use Rattle.std.specs.List.{AllByRecursion}
+use Rattle.std.proofs.Common.{◌≡◌, List, [], ◌∷◌, ◌++◌, Option, Some, None, refl, ap, sym, append-nil}
 use Rattle.zed_types.specs.declared.stamp.Stamp.{Stamp}
 use Rattle.zed_types.specs.declared.names.ElemId.{ElemId}
 use Rattle.zed_types.specs.declared.text.ByteRange.{ByteRange}
 use Rattle.zed_types.specs.declared.text.TextByte.{TextByte}
-use Rattle.zed_types.specs.Stamp.{before}
 use Rattle.zed_types.specs.Text.{NoneLater, behind, kill, kill_within, pass_later, put_after, put_late}
 
 pub pass_later-none : (s : Stamp) (e xs : List TextByte) → NoneLater s xs → pass_later s e xs ≡ e ++ xs

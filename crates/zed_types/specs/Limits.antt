@@ -21,6 +21,18 @@ most_boards = 100
 abbrev pub most_stats : ℕ
 most_stats = 150
 
+-- most bytes of a board's name
+abbrev pub longest_name : ℕ
+longest_name = 50
+
+-- most bytes of a board's message
+abbrev pub longest_message : ℕ
+longest_message = 58
+
+-- most bytes of a world's name and of a flag
+abbrev pub longest_word : ℕ
+longest_word = 20
+
 -- most bytes of a board's body that ZZT's own tools take
 abbrev pub usual_body : ℕ
 usual_body = 20000
@@ -44,3 +56,7 @@ rank_property = 12
 -- the element that is a player
 abbrev pub player_element : ℕ
 player_element = 4
+
+-- the element that is a passage
+abbrev pub passage_element : ℕ
+passage_element = 11

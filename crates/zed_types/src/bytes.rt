@@ -43,6 +43,19 @@ impl Bytes {
         Bytes { bytes }
     }
 
+    /// A string of these bytes. One without bytes takes no memory.
+    pub fn from_slice(alloc: Global, bytes: &[u8]) -> Result<Bytes, AllocError>
+        ensures result { IfOk result (λ b. b ≡ bytes.now) }
+        ensures memory_only_when { OnErr result (0 < length bytes.now) }
+    {
+        if bytes.is_empty() {
+            return Ok(Bytes::new(Vec::new(alloc)));
+        }
+        Ok(Bytes {
+            bytes: bytes.to_vec(alloc)?,
+        })
+    }
+
     pub fn as_slice(&self) -> &[u8]
         ensures { result.now ≡ self.now }
     {
@@ -54,12 +67,7 @@ impl Bytes {
         ensures result { IfOk result (λ b. b ≡ self.now) }
         ensures memory_only_when { OnErr result (0 < length self.now) }
     {
-        if self.bytes.is_empty() {
-            return Ok(Bytes::new(Vec::new(*self.bytes.allocator())));
-        }
-        Ok(Bytes {
-            bytes: self.bytes.clone()?,
-        })
+        Bytes::from_slice(*self.bytes.allocator(), self.as_slice())
     }
 
     /// Whether two strings are equal.

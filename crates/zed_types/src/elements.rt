@@ -7,6 +7,9 @@ use crate::kind::{Element, Look, Push};
 /// The number of the player's element.
 pub const PLAYER: u8 = 4;
 
+/// The number of a passage, which leads to another board.
+pub const PASSAGE: u8 = 11;
+
 /// A row of the table: the word, what is shown, whether it is walkable, which way it is pushed, whether it is destructible.
 macro_rules! kind {
     ($word:literal, $look:expr, $walkable:literal, $push:ident, $destructible:literal) => {

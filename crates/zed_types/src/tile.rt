@@ -1,4 +1,6 @@
 //! Tiles, and the table of a board.
+ghost use Rattle.std.specs.Prelude.{◌≡◌};
+ghost use Rattle.zed_types.specs.Table.{has_tile, tile_at};
 
 /// Columns of a board's table.
 pub const COLUMNS: usize = 60;
@@ -40,4 +42,22 @@ pub struct Rectangle {
     pub top: u8,
     pub right: u8,
     pub bottom: u8,
+}
+
+/// Whether a column and a row, both counted from 1, are in the table.
+pub fn has_tile(x: u8, y: u8) -> bool
+    ensures { result ≡ has_tile x y }
+{
+    1 <= x && usize::from(x) <= COLUMNS && 1 <= y && usize::from(y) <= ROWS
+}
+
+/// The tile of a table in a column and a row, both counted from 1. Outside the table there is none.
+pub fn tile_at(tiles: &[Tile; TILES], x: u8, y: u8) -> Option<Tile>
+    ensures { result ≡ tile_at tiles.now x y }
+{
+    if has_tile(x, y) {
+        Some(tiles[COLUMNS * (usize::from(y) - 1) + (usize::from(x) - 1)])
+    } else {
+        None
+    }
 }

@@ -1,6 +1,7 @@
 -- Which field stands at which offset: of a file, of the properties of a board behind its runs, of a stat.
-use Rattle.std.specs.Prelude.{ℕ, zero, suc, ◌+◌, ◌-◌, ◌*◌, Bool, false, ◌&&◌, ◌==◌, nat_lt, nat_le, if◌then◌else◌, List, [], ◌∷◌, ◌++◌, map, slice_get, slice_index, Option, Some, None}
+use Rattle.std.specs.Prelude.{ℕ, zero, suc, ◌+◌, ◌*◌, Bool, false, ◌==◌, if◌then◌else◌, List, [], ◌∷◌, ◌++◌, map, slice_index, Option, Some, None}
 use Rattle.zed_types.specs.declared.tile.Tile.{Tile}
+use Rattle.zed_types.specs.Table.{tile_at}
 use Rattle.zed_world.specs.declared.header.Header.{Header}
 use Rattle.zed_world.specs.declared.stat.Code.{Code}
 use Rattle.zed_world.specs.declared.stat.StatData.{StatData}
@@ -58,7 +59,7 @@ is_passage (Some tile) = tile.element == 11
 
 -- whether a passage stands at this place of a table
 unfoldable pub is_passage_at : List Tile → ℕ → ℕ → Bool
-is_passage_at tiles x y = nat_lt 0 x && nat_le x 60 && nat_lt 0 y && nat_le y 25 && is_passage (slice_get tiles (60 * (y - 1) + (x - 1)))
+is_passage_at tiles x y = is_passage (tile_at tiles x y)
 
 -- a stat with this program, on a board of so many stats
 unfoldable pub stat_with : ℕ → ℕ → List Tile → List ℕ → Code → StatData

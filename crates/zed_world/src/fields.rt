@@ -34,7 +34,7 @@ pub(crate) fn string_of(
 {
     let len = field.min(usize::from(bytes[at]));
     let text = &bytes[at + 1..at + 1 + len];
-    Ok(Bytes::new(text.to_vec(alloc)?))
+    Bytes::from_slice(alloc, text)
 }
 
 pub(crate) fn board_number(boards: usize, n: u8) -> u8

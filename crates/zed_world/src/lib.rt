@@ -26,7 +26,7 @@ pub use laws::{
     written_is_read,
 };
 pub use reading::read_world;
-pub use size::body_len;
+pub use size::{BODY_FRAME, STAT_FRAME, body_len};
 pub use stat::{Code, StatData};
 pub use stats::is_passage;
 pub use world::World;

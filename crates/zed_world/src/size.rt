@@ -11,10 +11,10 @@ use crate::stat::{Code, StatData};
 use zed_runs::runs_len;
 
 /// The bytes of a body beside its runs and its stats: the name, the properties, the number of stats.
-const FRAME: usize = 51 + 86 + 2;
+pub const BODY_FRAME: usize = 51 + 86 + 2;
 
 /// The bytes of a stat beside its program.
-const STAT: usize = 33;
+pub const STAT_FRAME: usize = 33;
 
 /// How many bytes a program takes with its stat.
 fn code_len(code: &Code) -> usize
@@ -37,7 +37,7 @@ fn stats_len(stats: &[StatData]) -> usize
 {
     let mut bytes = 0;
     for stat in stats {
-        bytes += STAT + code_len(&stat.code);
+        bytes += STAT_FRAME + code_len(&stat.code);
     }
     bytes
 }
@@ -48,7 +48,7 @@ pub fn body_len(board: &BoardData) -> usize
     ensures result { result ≡ length (body_text board.now) }
     ensures within { result ≤ 4957439 }
 {
-    FRAME + runs_len(&board.tiles) + stats_len(board.stats.as_slice())
+    BODY_FRAME + runs_len(&board.tiles) + stats_len(board.stats.as_slice())
 }
 
 /// Refuses the first board whose body is over the limit.

@@ -8,20 +8,17 @@ use crate::error::WorldError;
 use crate::fields::{board_number, integer_of, stat_integer};
 use crate::stat::{Code, StatData};
 use std::alloc::Global;
-use zed_types::{Bytes, Seq, TILES, Tile};
-
-/// The element of a passage.
-const PASSAGE: u8 = 11;
+use zed_types::{Bytes, PASSAGE, Seq, TILES, Tile, tile_at};
 
 /// Whether there is a passage at a place. Outside the table there is none.
 #[tactic(auto, unfolding(crate::specs::Offsets::is_passage_at))]
 pub fn is_passage(tiles: &[Tile; TILES], x: u8, y: u8) -> bool
     ensures { result ≡ is_passage_at tiles.now x y }
 {
-    if x == 0 || 60 < x || y == 0 || 25 < y {
-        return false;
+    match tile_at(tiles, x, y) {
+        Some(tile) => tile.element == PASSAGE,
+        None => false,
     }
-    tiles[60 * (usize::from(y) - 1) + (usize::from(x) - 1)].element == PASSAGE
 }
 
 /// The program of a stat that shares that of stat `n`.
@@ -58,7 +55,7 @@ fn program_of<'a>(
             return Err(WorldError::Truncated);
         }
         let (program, rest) = rest.split_at(len);
-        return Ok((Code::Own(Bytes::new(program.to_vec(alloc)?)), rest));
+        return Ok((Code::Own(Bytes::from_slice(alloc, program)?), rest));
     }
     let n = usize::from(len.unsigned_abs());
     if done.len() <= n {

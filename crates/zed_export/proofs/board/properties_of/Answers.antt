@@ -22,13 +22,13 @@ returns-clause-result c =
     = λ n x o e f. e ∙ ap (λ (names : List Name). exit_place names x) c.requires.boards ∙ ap (exit_place (board_names p)) f ∙ exit_places p c.requires.ordered o in
     let north = number c.exit_number.result c.exit.result (exit North q) c.exit_number.ensures (c.exit.ensures ∙ ap (exit North) shown) in
     let south =
-        number c.exit_number-2.result c.exit-2.result (exit South q) c.exit_number-2.ensures (c.exit-2.ensures ∙ ap (exit South) shown) in
+    number c.exit_number-2.result c.exit-2.result (exit South q) c.exit_number-2.ensures (c.exit-2.ensures ∙ ap (exit South) shown) in
     let west =
-        number c.exit_number-3.result c.exit-3.result (exit West q) c.exit_number-3.ensures (c.exit-3.ensures ∙ ap (exit West) shown) in
+    number c.exit_number-3.result c.exit-3.result (exit West q) c.exit_number-3.ensures (c.exit-3.ensures ∙ ap (exit West) shown) in
     let east =
-        number c.exit_number-4.result c.exit-4.result (exit East q) c.exit_number-4.ensures (c.exit-4.ensures ∙ ap (exit East) shown) in
-    let message : c.in_ok-copy_of.field-0 ≡ board_text Message q =
-        c.in_ok-copy_of.ensures ∙ c.text.ensures ∙ ap (board_text Message) shown in
+    number c.exit_number-4.result c.exit-4.result (exit East q) c.exit_number-4.ensures (c.exit-4.ensures ∙ ap (exit East) shown) in
+    let message : c.in_ok-from_slice.field-0 ≡ board_text Message q =
+    c.in_ok-from_slice.ensures.result ∙ c.text.ensures ∙ ap (board_text Message) shown in
     let limit = kept c.time_limit.result q.time_limit (search rules) (c.time_limit.ensures ∙ ap (λ (x : Properties). x.time_limit) shown) in
     rw (
       c.byte.ensures ∙ ap (board_byte MaxShots) shown,

@@ -21,14 +21,14 @@ returns-clause-result c =
     let torches = kept c.number-4.result (header_number Torches h) (search rules) (c.number-4.ensures ∙ number Torches) in
     let torch_ticks = kept c.number-5.result (header_number TorchTicks h) (search rules) (c.number-5.ensures ∙ number TorchTicks) in
     let energizer_ticks =
-        kept c.number-6.result (header_number EnergizerTicks h) (search rules) (c.number-6.ensures ∙ number EnergizerTicks) in
+    kept c.number-6.result (header_number EnergizerTicks h) (search rules) (c.number-6.ensures ∙ number EnergizerTicks) in
     let score = kept c.number-7.result (header_number Score h) (search rules) (c.number-7.ensures ∙ number Score) in
     let time_passed = kept c.number-8.result (header_number TimePassed h) (search rules) (c.number-8.ensures ∙ number TimePassed) in
     let hundredths = kept c.number-9.result (header_number Hundredths h) (search rules) (c.number-9.ensures ∙ number Hundredths) in
     let board : c.board_number.result ≡ number_or_0 p h.current_board
     = c.board_number.ensures ∙ ap (λ (names : List Name). place_or_0 names c.current_board.result) c.requires.named ∙ ap (place_or_0 (board_names p)) (c.current_board.ensures ∙ ap (λ (x : Header). x.current_board) c.header-header.ensures) ∙ board_place p c.requires.ordered h.current_board in
-    let name : c.in_ok-copy_of.field-0 ≡ h.world_name =
-        c.in_ok-copy_of.ensures ∙ c.world_name.ensures ∙ ap (λ (x : Header). x.world_name) c.header-header.ensures in
+    let name : c.in_ok-from_slice.field-0 ≡ h.world_name =
+    c.in_ok-from_slice.ensures.result ∙ c.world_name.ensures ∙ ap (λ (x : Header). x.world_name) c.header-header.ensures in
     let keys = c.keys_of.ensures ∙ ap (λ (x : Header). x.keys) c.header-header.ensures in
     let flags = c.in_ok-flags_of.ensures ∙ ap (λ (x : Header). x.flags) c.header-header.ensures in
     let saved = c.saved.ensures ∙ ap (λ (x : Header). x.saved) c.header-header.ensures in

@@ -16,7 +16,7 @@ returns-in_err-push-clause-memory_only_when c =
     let j = c.loop-j.j in
     let is : get_or ss j s ≡ s = cc (c.index-stats-j.is) in
     let step : drop j ss ≡ s ∷ drop (j + 1) ss = drop_more ss j s c.loop-j-test.true ∙ ap (λ (y : StatData). y ∷ drop (j + 1) ss) is in
-    let off = sym c.is_inside.ensures ∙ c.if-not-is_inside.true in
+    let off = sym c.has_tile.ensures ∙ c.if-not-has_tile.true in
     let some = subst (λ (l : List StatData). 0 < length (place_warnings n (take j ss) l)) (sym step) (warned_off n (take j ss) s (drop (j + 1) ss) off) in
     let none = lacks c.args.out.now.items c.loop-j.out.items (place_warnings n [] ss) (place_warnings n (take j ss) (drop j ss)) (vec_capacity c.args.out.now) (vec_capacity c.loop-j.out)
     c.loop-j.invariant.made some c.loop-j.invariant.roomy (omega (arith, c.in_err-push.ensures.full)) in
@@ -32,7 +32,7 @@ returns-in_err-push-2-clause-memory_only_when c =
     let j = c.loop-j.j in
     let is : get_or ss j s ≡ s = cc (c.index-stats-j.is) in
     let step : drop j ss ≡ s ∷ drop (j + 1) ss = drop_more ss j s c.loop-j-test.true ∙ ap (λ (y : StatData). y ∷ drop (j + 1) ss) is in
-    let on = sym c.is_inside.ensures ∙ c.if-not-is_inside.false in
+    let on = sym c.has_tile.ensures ∙ c.if-not-has_tile.false in
     let same = sym c.is_taken.ensures ∙ c.if-is_taken.true in
     let some = subst (λ (l : List StatData). 0 < length (place_warnings n (take j ss) l)) (sym step) (warned_same n (take j ss) s (drop (j + 1) ss) on same) in
     let none = lacks c.args.out.now.items c.loop-j.out.items (place_warnings n [] ss) (place_warnings n (take j ss) (drop j ss)) (vec_capacity c.args.out.now) (vec_capacity c.loop-j.out)
