@@ -1,6 +1,6 @@
 //! What is shown of a board.
 ghost use Rattle.std.specs.Prelude.{◌≡◌, ◌<◌, find};
-ghost use Rattle.zed_screen.specs.Picture.{attribute_of, cell_of, character_as, data_cell, data_p1, look_of, p1_at, place_of, scene_cell, shown_in, stands_at};
+ghost use Rattle.zed_screen.specs.Picture.{attribute_of, character_as, data_cell, data_p1, look_of, or_mark, p1_at, place_of, scene_cell, stands_at};
 
 use crate::frame::{Cell, SIDE};
 use zed_oop::{Scene, tile_in};
@@ -14,16 +14,13 @@ fn look_of(n: u8) -> Look
     element(n).look
 }
 
-fn character_as(look: Look, colour: u8, p1: Option<u8>) -> u8
-    ensures { result ≡ character_as look colour p1 }
+/// The first parameter of a stat as a character; `?` without a stat.
+fn or_mark(p1: Option<u8>) -> u8
+    ensures { result ≡ or_mark p1 }
 {
-    match look {
-        Look::Character(c) => c,
-        Look::FirstParameter => match p1 {
-            Some(p1) => p1,
-            None => b'?',
-        },
-        Look::Colour => colour,
+    match p1 {
+        Some(p1) => p1,
+        None => b'?',
     }
 }
 
@@ -39,15 +36,6 @@ fn attribute_of(tile: Tile) -> u8
     }
 }
 
-fn cell_of(tile: Tile, p1: Option<u8>) -> Cell
-    ensures { result ≡ cell_of tile p1 }
-{
-    Cell {
-        character: character_as(look_of(tile.element), tile.colour, p1),
-        attribute: attribute_of(tile),
-    }
-}
-
 /// The place of the table that is shown in a column and a row of the screen.
 fn place_of(column: u16, row: u16) -> Place
     requires column { column < 80 }
@@ -57,17 +45,6 @@ fn place_of(column: u16, row: u16) -> Place
     Place {
         x: (column + 1) as u8,
         y: (row + 1) as u8,
-    }
-}
-
-/// What is shown in a column, of a tile and the first parameter of the lowest stat at its place.
-fn shown_in(column: u16, tile: Tile, p1: Option<u8>) -> Cell
-    ensures { result ≡ shown_in column tile p1 }
-{
-    if column >= 60 {
-        SIDE
-    } else {
-        cell_of(tile, p1)
     }
 }
 
@@ -82,25 +59,32 @@ fn p1_at(scene: &Scene, place: Place) -> Option<u8>
     }
 }
 
+/// The character of a tile at a place of a board in play. Its stat is sought only if it shows one.
+fn scene_character(scene: &Scene, tile: Tile, place: Place) -> u8
+    ensures { result ≡ character_as (look_of tile.element) tile.colour (p1_at scene.now place) }
+{
+    match look_of(tile.element) {
+        Look::Character(c) => c,
+        Look::FirstParameter => or_mark(p1_at(scene, place)),
+        Look::Colour => tile.colour,
+    }
+}
+
 /// The place `k` of the screen for a board in play.
 #[tactic(auto, unfolding(crate::specs::Picture::scene_cell))]
 pub(crate) fn scene_cell(scene: &Scene, k: u16) -> Cell
     requires { k < 2000 }
     ensures { result ≡ scene_cell scene.now k }
 {
+    if k % 80 >= 60 {
+        return SIDE;
+    }
     let place = place_of(k % 80, k / 80);
-    shown_in(k % 80, scene.tile(place), p1_at(scene, place))
-}
-
-/// The place `k` of the screen for a board of a world.
-#[tactic(auto, unfolding(crate::specs::Picture::data_cell))]
-pub(crate) fn data_cell(board: &BoardData, k: u16) -> Cell
-    requires { k < 2000 }
-    ensures { result ≡ data_cell board.now k }
-{
-    let place = place_of(k % 80, k / 80);
-    let tile = tile_in(&board.tiles, place);
-    shown_in(k % 80, tile, data_p1_at(board.stats.as_slice(), place))
+    let tile = scene.tile(place);
+    Cell {
+        character: scene_character(scene, tile, place),
+        attribute: attribute_of(tile),
+    }
 }
 
 /// The first parameter of the lowest stat at a place.
@@ -110,5 +94,34 @@ fn data_p1_at(stats: &[StatData], place: Place) -> Option<u8>
     match stats.iter().find(|s| s.x == place.x && s.y == place.y) {
         Some(stat) => Some(stat.p1),
         None => None,
+    }
+}
+
+/// The character of a tile at a place of a world's board. Its stat is sought only if it shows one.
+fn data_character(stats: &[StatData], tile: Tile, place: Place) -> u8
+    ensures { result ≡ character_as (look_of tile.element) tile.colour
+        (data_p1 (find (stands_at place) stats.now)) }
+{
+    match look_of(tile.element) {
+        Look::Character(c) => c,
+        Look::FirstParameter => or_mark(data_p1_at(stats, place)),
+        Look::Colour => tile.colour,
+    }
+}
+
+/// The place `k` of the screen for a board of a world.
+#[tactic(auto, unfolding(crate::specs::Picture::data_cell))]
+pub(crate) fn data_cell(board: &BoardData, k: u16) -> Cell
+    requires { k < 2000 }
+    ensures { result ≡ data_cell board.now k }
+{
+    if k % 80 >= 60 {
+        return SIDE;
+    }
+    let place = place_of(k % 80, k / 80);
+    let tile = tile_in(&board.tiles, place);
+    Cell {
+        character: data_character(board.stats.as_slice(), tile, place),
+        attribute: attribute_of(tile),
     }
 }
