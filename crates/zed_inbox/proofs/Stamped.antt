@@ -75,9 +75,6 @@ pub stamps_stamped : (es : List Edit) → keys_of (stamped es) ≡ stamps_of es
 stamps_stamped [] = refl
 stamps_stamped (e ∷ es) = ap (λ ss. e.stamp ∷ ss) (stamps_stamped es)
 
-pub keys_stamped : (m : List (Stamp × Edit)) (es : List Edit) → m ≡ stamped (values_of m) → values_of m ≡ es → keys_of m ≡ stamps_of es
-keys_stamped m es under is = ap keys_of under ∙ stamps_stamped (values_of m) ∙ ap stamps_of is
-
 pub kept_stamped : (m : List (Stamp × Edit)) (es : List Edit) (ws : List (Thing × Stamp)) → m ≡ stamped es → IsRising es → AreListed ws es
     → AreKept m ws
 kept_stamped m es ws is rises are = record {

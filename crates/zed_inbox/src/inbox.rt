@@ -1,5 +1,5 @@
 //! An inbox: edits that wait.
-ghost use Rattle.std.specs.Prelude.{◌≡◌, ◌≢◌, ◌↔◌, length, [], map, false, IsTrue, IfOk, IfErr, OnOk, OnErr};
+ghost use Rattle.std.specs.Prelude.{◌≡◌, ◌≢◌, ◌↔◌, length, [], false, IsTrue, IfOk, OnOk, OnErr};
 ghost use Rattle.std.specs.List.{find, list_any};
 ghost use Rattle.zed_types.specs.Stamp.{same_stamp};
 ghost use Rattle.zed_op.specs.Set.{IsRising, with_edit, stamps_of};
@@ -86,18 +86,6 @@ impl Inbox {
         ensures result { result ≡ list_any (λ e. same_stamp e.stamp stamp) self.now }
     {
         has(&self.edits, stamp)
-    }
-
-    /// The stamps of the edits that wait, in order. If nothing waits, this takes no memory.
-    pub fn stamps(&self) -> Result<Vec<Stamp>, AllocError>
-        ensures ok { IfOk result (λ stamps. stamps.items ≡ stamps_of self.now) }
-        ensures memory_only_when { OnErr result (self.now ≢ []) }
-    {
-        let mut stamps = Vec::with_capacity(self.alloc, self.held())?;
-        for stamp in self.edits.keys() {
-            stamps.push(*stamp).unwrap();
-        }
-        Ok(stamps)
     }
 
     /// Whether the same edits wait in another inbox.
