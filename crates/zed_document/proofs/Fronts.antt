@@ -46,7 +46,7 @@ pub lacked : (x : DocumentError) → refused x ≡ Err Memory → not_told x ≡
 lacked x lacks = let same : x ≡ Memory = cc in ap not_told same
 
 -- one that was accepted is free
-accepted_free : (o : Option Edit) (es : List Edit) (e : Edit) (d : Delivered) → o ≡ edit_with e.stamp es → AnswersAt o es e (Ok d)
+pub accepted_free : (o : Option Edit) (es : List Edit) (e : Edit) (d : Delivered) → o ≡ edit_with e.stamp es → AnswersAt o es e (Ok d)
     → IsFree es e
 accepted_free None es e d is a = rw (← is) tt
 accepted_free (Some f) es e d is a =

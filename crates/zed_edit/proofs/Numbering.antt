@@ -12,7 +12,7 @@ use Rattle.std.proofs.lemmas.List.MinMax.{ranks_by}
 use Rattle.std.proofs.lemmas.List.Sorted.{sorted_far, length_permutation, IsPermutation-refl, IsPermutation-trans, IsPermutation-append_left, IsPermutation-to_front, IsPermutation-cons}
 use Rattle.zed_types.specs.declared.names.BoardId.{BoardId}
 use Rattle.zed_types.specs.Names.{same_board, name_cmp}
-use Rattle.zed_types.proofs.Orderings.{less_from, then_eq, name_same}
+use Rattle.zed_types.proofs.Orderings.{less_from, name_less, name_same, name_total, then_eq}
 use Rattle.zed_edit.specs.declared.numbers.Standing.{Standing}
 use Rattle.zed_edit.specs.declared.plain.Board.{Board}
 use Rattle.zed_edit.specs.Numbers.{AreApart, boards_before, board_with, by_number, standing, standing_cmp, stands_before}
@@ -23,26 +23,12 @@ pub total : IsTotalOrder standing_cmp
 total =
     then_total
     (on_total (λ (x : Standing). x.place) nat_cmp_total)
-    (then_total
-    (then_total (on_total (λ (x : Standing). x.board.name.stamp.time) nat_cmp_total) (on_total (λ (x : Standing). x.board.name.stamp.replica) nat_cmp_total))
-    (on_total (λ (x : Standing). x.board.name.index) nat_cmp_total))
+    (on_total (λ (x : Standing). x.board.name) name_total)
 
 first_decides : (a b : Bool) (o : Ordering) → is_lt (ordering_then (cond a Less (cond b Equal Greater)) o) ≡ (a || (b && is_lt o))
 first_decides true b o = refl
 first_decides false true o = refl
 first_decides false false o = refl
-
--- what comparing names says, by the tests on each part
-by_tests : (a b c d e f : Bool)
-    → is_lt (ordering_then (ordering_then (cond a Less (cond b Equal Greater)) (cond c Less (cond d Equal Greater))) (cond e Less (cond f Equal Greater)))
-      ≡ ((a || (b && c)) || ((b && d) && e))
-by_tests true b c d e f = refl
-by_tests false true true d e f = refl
-by_tests false true false true true f = refl
-by_tests false true false true false true = refl
-by_tests false true false true false false = refl
-by_tests false true false false e f = refl
-by_tests false false c d e f = refl
 
 -- a standing compares as lower where it comes before
 pub is_less : (a b : Standing) → is_lt (standing_cmp a b) ≡ stands_before a b
@@ -51,7 +37,7 @@ is_less a b =
     let n = b.board.name in
     first_decides (ltb a.place b.place) (eqb a.place b.place) (name_cmp m n)
     ∙ ap (λ t. ltb a.place b.place || (eqb a.place b.place && t))
-    (by_tests (ltb m.stamp.time n.stamp.time) (eqb m.stamp.time n.stamp.time) (ltb m.stamp.replica n.stamp.replica) (eqb m.stamp.replica n.stamp.replica) (ltb m.index n.index) (eqb m.index n.index))
+    (name_less m n)
 
 pub one-way : (a b : Standing) → stands_before a b ≡ true → stands_before b a ≡ false
 one-way a b h = sym (is_less b a) ∙ (ranks_by total (λ x. x)).one_way a b (is_less a b ∙ h)

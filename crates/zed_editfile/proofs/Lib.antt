@@ -15,4 +15,5 @@ pub mod Registers
 pub mod Lengths
 pub mod Putting
 pub mod Records
+pub mod Stopping
 pub mod Strings

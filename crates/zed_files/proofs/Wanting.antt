@@ -15,6 +15,7 @@ use Rattle.zed_editfile.specs.Spelling.{AreOf, head_text, number, record_text, s
 use Rattle.zed_editfile.specs.Stream.{AreRecords, Feeds, Frames, HasLength, IsRecord, Progress, Reads, Stop, Stops, body_at, ending, ending_by, fails, fault_of, has_letters, head_stop, is_length, is_other, is_version, record_stop, stop_of, verdict_of, waits}
 use Rattle.zed_editfile.proofs.Cuts.{frame_number}
 use Rattle.zed_editfile.proofs.Numbers.{length_number}
+use Rattle.zed_editfile.proofs.Stopping.{StopsBut, choice, failing, nowhere, waiting}
 use Rattle.zed_link.specs.declared.error.LinkError.TheVariants as link
 use Rattle.zed_link.specs.Pieces.{TakesPiece}
 use Rattle.zed_link.specs.Refusals.{file_refusal}
@@ -25,24 +26,7 @@ use Rattle.zed_files.specs.Files.{WantsMemory}
 
 -- not for want of memory
 abbrev Ample : Option Stop → Type 0
-Ample o = (s : Stop) → o ≡ Some s → s.fault ≡ Some Memory → ⊥
-
-abbrev fault_in : Option Stop → Option EditFileError
-fault_in None = None
-fault_in (Some s) = s.fault
-
-waiting : (bytes : List ℕ) → Ample (waits bytes)
-waiting bytes s is lack = let same : None ≡ s.fault = ap fault_in is in cc
-
-failing : (e : EditFileError) → (Some e ≡ Some Memory → ⊥) → Ample (fails e)
-failing e other s is lack = let same : Some e ≡ s.fault = ap fault_in is in other (same ∙ lack)
-
-nowhere : Ample None
-nowhere s is lack = cc
-
-choice : (b : Bool) (x y : Option Stop) → Ample x → Ample y → Ample (cond b x y)
-choice true x y h k = h
-choice false x y h k = k
+Ample o = StopsBut Memory o
 
 -- the head
 head_ample : (asked : Option ℕ) (bytes : List ℕ) → Ample (head_stop asked bytes)

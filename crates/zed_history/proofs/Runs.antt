@@ -241,7 +241,7 @@ new-to-both : SetsHold → (log q r : List Edit) → IsRising log → AreNew log
 new-to-both laws log q [] i n m = tt
 new-to-both laws log q (f ∷ r) i n m =
     let here : edit_with f.stamp (union log q) ≡ None =
-        found-union laws.rises f.stamp log q i ∙ ap (λ o. first_of o (edit_with f.stamp q)) n.0 ∙ m.0 in
+    found-union laws.rises f.stamp log q i ∙ ap (λ o. first_of o (edit_with f.stamp q)) n.0 ∙ m.0 in
     (here, new-to-both laws log q r i n.1 m.1)
 
 all-new-to-both : SetsHold → (log q : List Edit) (rs : Runs) → IsRising log → AllByRecursion (AreNew log) rs → AreNewIn q rs
@@ -377,6 +377,13 @@ found-last s log run ended none others =
     ∙ found-append s ended (run ∷ [])
     ∙ ap (λ (o : Found). first_of o (found_in s (run ∷ []))) others
     ∙ first-none (edit_with s run)
+
+-- what is in no other run is sought in the last one
+pub found-behind : SetsHold → (s : Stamp) (log run all : List Edit) (ended : Runs) → AreRuns (log ∷ (ended ++ run ∷ []))
+    → joined (log ∷ (ended ++ run ∷ [])) ≡ all → edit_with s log ≡ None → found_in s ended ≡ None
+    → edit_with s all ≡ edit_with s run
+found-behind laws s log run all ended are is none others =
+    found-whole laws s (log ∷ (ended ++ run ∷ [])) all are is ∙ found-last s log run ended none others
 
 pub found-empty : (s : Stamp) (rs : Runs) → found_in s (rs ++ [] ∷ []) ≡ found_in s rs
 found-empty s rs = found-append s rs ([] ∷ []) ∙ first-none (found_in s rs)

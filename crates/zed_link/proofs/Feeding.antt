@@ -26,7 +26,7 @@ use Rattle.zed_link.specs.Refusals.{file_refusal}
 use Rattle.zed_link.specs.Pull.{AllDelivered, StopsForMemory}
 use Rattle.zed_link.specs.Tally.{plus, state_in, states, tally}
 use Rattle.zed_link.proofs.Deliveries.{counted_more, delivered_more, refused_before, stops_more}
-use Rattle.zed_link.proofs.Falls.{falls_more}
+use Rattle.zed_document.proofs.Fronts.{falls_more}
 use Rattle.zed_link.proofs.Tallies.{tally_below}
 use Rattle.zed_link.proofs.Readings.{few_edits, record_long}
 
@@ -43,9 +43,9 @@ feeds_more a b es fs p q r one two = record {
   good = records_both es fs (subst AreRecords (sym one.gained) one.good) (subst AreRecords (sym two.gained) two.good);
   reads = λ bytes found h.
       let first : Reads (bytes ++ a) (found ++ es) q =
-          subst (λ z. Reads (bytes ++ a) (found ++ z) q) (sym one.gained) (one.reads bytes found h) in
+      subst (λ z. Reads (bytes ++ a) (found ++ z) q) (sym one.gained) (one.reads bytes found h) in
       let both : Reads ((bytes ++ a) ++ b) ((found ++ es) ++ fs) r =
-          subst (λ z. Reads ((bytes ++ a) ++ b) ((found ++ es) ++ z) r) (sym two.gained) (two.reads (bytes ++ a) (found ++ es) first) in
+      subst (λ z. Reads ((bytes ++ a) ++ b) ((found ++ es) ++ z) r) (sym two.gained) (two.reads (bytes ++ a) (found ++ es) first) in
       subst (λ z. Reads z (found ++ (es ++ fs)) r) (append_assoc bytes a b) (subst (λ z. Reads ((bytes ++ a) ++ b) z r) (append_assoc found es fs) both);
 }
 
@@ -157,8 +157,8 @@ pub room : (d : Replica) (piece : List ℕ) (p q r : Progress) (rest front after
     → Taking d piece p q rest m counts → HasRoomFor piece p → rest ≡ front ++ after → Feeds front [] fs q r
     → got ≡ tally (states m.edits fs)
     → (counts.taken + got.taken < 9223372036854775808)
-      × (counts.held + got.held < 9223372036854775808)
-      × (counts.known + got.known < 9223372036854775808)
+    × (counts.held + got.held < 9223372036854775808)
+    × (counts.known + got.known < 9223372036854775808)
 room d piece p q r rest front after m fs counts got t (handed, found, reads, small) whole feeds told =
     let both = feeds_more t.done front t.es fs p q r t.feeds feeds in
     let few : length (found ++ (t.es ++ fs)) ≤ length (handed ++ (t.done ++ front)) = few_edits (handed ++ (t.done ++ front)) (found ++ (t.es ++ fs)) r (subst (λ z. Reads (handed ++ (t.done ++ front)) (found ++ z) r) (sym both.gained) (both.reads handed found reads)) in
@@ -186,14 +186,6 @@ room_one d piece p q rest front after m e counts t has k =
     let b = r.1 in
     let c = r.2 in
     (omega arith, omega arith, omega arith)
-
--- all was taken
-pub all_taken : (d : Replica) (piece : List ℕ) (p q : Progress) (rest : List ℕ) (m : Replica) (counts : Pulled)
-    → Taking d piece p q rest m counts → rest ≡ []
-    → (es : List Edit) × Feeds piece [] es p q × TakesPiece d es q (Ok counts) m.edits
-all_taken d piece p q rest m counts t none =
-    let whole : piece ≡ t.done = t.whole ∙ ap (λ (z : List ℕ). t.done ++ z) none ∙ append-nil t.done in
-    (t.es, subst (λ z. Feeds z [] t.es p q) (sym whole) t.feeds, (t.calm, t.all, t.counted))
 
 -- what stops for memory stops so before more edits
 stops_before : (d : Replica) (es more left : List Edit) → StopsForMemory d es left → StopsForMemory d (es ++ more) left
@@ -223,7 +215,7 @@ record_refused d piece p q r u rest front after m fs more left counts e t whole 
     let one = feeds_more t.done front t.es fs p q r t.feeds feeds in
     let all = feeds_more (t.done ++ front) after (t.es ++ fs) more p r u one drained in
     let is : piece ≡ (t.done ++ front) ++ after =
-        t.whole ∙ ap (λ (z : List ℕ). t.done ++ z) whole ∙ sym (append_assoc t.done front after) in (
+    t.whole ∙ ap (λ (z : List ℕ). t.done ++ z) whole ∙ sym (append_assoc t.done front after) in (
       es,
       subst (λ z. Feeds z [] es p u) (sym is) all,
       elim takes [

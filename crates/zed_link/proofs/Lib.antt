@@ -1,7 +1,6 @@
 pub mod CountsAside
 pub mod EndsLaws
 pub mod WritesLaws
-pub mod Falls
 pub mod Deliveries
 pub mod Tallies
 pub mod Readings

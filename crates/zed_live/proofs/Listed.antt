@@ -14,17 +14,16 @@ use Rattle.std.specs.List.Sorted.{IsStrictlySortedBy}
 use Rattle.std.specs.Option.{option_map, option_map_or}
 use Rattle.std.specs.Ordering.{is_eq, ordering_reverse}
 use Rattle.zed_types.specs.declared.names.Name.{Name}
-use Rattle.zed_types.proofs.Orderings.{name_same, less_from}
+use Rattle.zed_types.proofs.Orderings.{less_from, name_less, name_same, name_total}
 use Rattle.zed_types.specs.Names.{NamesRise, is_earlier, name_cmp}
 use Rattle.zed_names.specs.ByName.{Under, IsOnlyName, key_cmp, same, under, change}
 use Rattle.zed_names.proofs.Found.{apart, one, rise-change}
-use Rattle.zed_names.proofs.Order.{name_total, is_less}
 use Rattle.zed_live.proofs.Pairs.{sorted_cons}
 
 -- ---- the order of names
 
 comes-first : (a b : Name) → is_earlier a b ≡ true → name_cmp a b ≡ Less
-comes-first a b h = less_from (name_cmp a b) (is_less a b ∙ h)
+comes-first a b h = less_from (name_cmp a b) (name_less a b ∙ h)
 
 -- a later name isn't an earlier one
 later-apart : (a b : Name) → is_earlier a b ≡ true → is_eq (name_cmp b a) ≡ false
@@ -136,7 +135,7 @@ module _ {K : Type 0} (name : K → Name) (only : IsOnlyName name) where
             let i : k ≡ y.0 = one name only k y.0 v in
             let none : is_among name y.0 ks ≡ false = ap (λ c. is_among name c ks) (sym i) ∙ n in
             let later : AllByRecursion (λ z. is_earlier (name k) (name z.0) ≡ true) ys =
-                subst (λ c. AllByRecursion (λ z. is_earlier (name c) (name z.0) ≡ true) ys) (sym i) r.0 in
+            subst (λ c. AllByRecursion (λ z. is_earlier (name c) (name z.0) ≡ true) ys) (sym i) r.0 in
             ap (λ u. (y.0, cond u (f (f y.1)) (f y.1)) ∷ change_in f ks ys) none
             ∙ ap (λ zs. (y.0, f y.1) ∷ zs) (in_later f k ks ys later)
             ∙ ap (λ u. (y.0, cond (u || is_among name y.0 ks) (f y.1) y.1) ∷ change_in f (k ∷ ks) ys) (sym (at_itself k y.0 i))

@@ -8,35 +8,11 @@ use Rattle.std.specs.declared.cmp.Ordering.{Ordering}
 use Rattle.std.specs.declared.cmp.Ordering.TheVariants.{Less, Equal, Greater}
 use Rattle.zed_types.specs.declared.names.Name.{Name}
 use Rattle.zed_types.specs.Names.{same_name, is_earlier, name_cmp}
-use Rattle.zed_types.proofs.Orderings.{less_from}
-
-pub name_total : IsTotalOrder name_cmp
-name_total =
-    then_total
-    (then_total (on_total (λ (x : Name). x.stamp.time) nat_cmp_total) (on_total (λ (x : Name). x.stamp.replica) nat_cmp_total))
-    (on_total (λ (x : Name). x.index) nat_cmp_total)
-
--- what comparing says of three parts, by the tests on each
-by_tests : (a b c d e f : Bool)
-    → is_lt (ordering_then (ordering_then (cond a Less (cond b Equal Greater)) (cond c Less (cond d Equal Greater))) (cond e Less (cond f Equal Greater)))
-      ≡ ((a || (b && c)) || ((b && d) && e))
-by_tests true b c d e f = refl
-by_tests false true true d e f = refl
-by_tests false true false true true f = refl
-by_tests false true false true false true = refl
-by_tests false true false true false false = refl
-by_tests false true false false e f = refl
-by_tests false false c d e f = refl
-
--- a name compares as less_from where it is earlier
-pub is_less : (a b : Name) → is_lt (name_cmp a b) ≡ is_earlier a b
-is_less a b =
-    by_tests (ltb a.stamp.time b.stamp.time) (eqb a.stamp.time b.stamp.time) (ltb a.stamp.replica b.stamp.replica) (eqb a.stamp.replica b.stamp.replica)
-    (ltb a.index b.index) (eqb a.index b.index)
+use Rattle.zed_types.proofs.Orderings.{less_from, name_less, name_total}
 
 pub earlier-through : (a b c : Name) → is_earlier a b ≡ true → is_earlier b c ≡ true → is_earlier a c ≡ true
 earlier-through a b c h k =
-    sym (is_less a c) ∙ ap is_lt (name_total.trans a b c (less_from (name_cmp a b) (is_less a b ∙ h)) (less_from (name_cmp b c) (is_less b c ∙ k)))
+    sym (name_less a c) ∙ ap is_lt (name_total.trans a b c (less_from (name_cmp a b) (name_less a b ∙ h)) (less_from (name_cmp b c) (name_less b c ∙ k)))
 
 then_equal : (o p : Ordering) → ordering_then o p ≡ Equal → (o ≡ Equal) × (p ≡ Equal)
 then_equal Less p h = absurd (cc)
@@ -57,9 +33,9 @@ name_same a b h =
 
 -- of two names one is earlier
 pub other-earlier : (a b : Name) → is_earlier a b ≡ false → same_name b a ≡ false → is_earlier b a ≡ true
-other-earlier a b h d = go (name_cmp a b) refl (is_less a b ∙ h)
+other-earlier a b h d = go (name_cmp a b) refl (name_less a b ∙ h)
   where
     go : (o : Ordering) → name_cmp a b ≡ o → is_lt o ≡ false → is_earlier b a ≡ true
     go Less e h = absurd (true≢false h)
     go Equal e h = absurd (true≢false (sym (name_same a b e) ∙ d))
-    go Greater e h = sym (is_less b a) ∙ ap is_lt (name_total.antisymm b a ∙ ap ordering_reverse e)
+    go Greater e h = sym (name_less b a) ∙ ap is_lt (name_total.antisymm b a ∙ ap ordering_reverse e)

@@ -17,7 +17,8 @@ use Rattle.zed_types.specs.declared.names.Name.{Name}
 use Rattle.zed_types.specs.Names.{is_earlier}
 use Rattle.zed_names.specs.ByName.{Under, same, key_cmp, under, put, add}
 use Rattle.zed_names.proofs.Changed.{add-new}
-use Rattle.zed_names.proofs.Order.{name_total, is_less, other-earlier}
+use Rattle.zed_types.proofs.Orderings.{name_less, name_total}
+use Rattle.zed_names.proofs.Order.{other-earlier}
 use Rattle.zed_names.proofs.Found.{none-first}
 
 not_past : (n i : ℕ) → i ≤ n → index_before n i ≡ i
@@ -50,14 +51,14 @@ module _ {K X : Type 0} (name : K → Name) where
   at-place [] (suc i) id s l n h = absurd (omega arith)
   at-place (e ∷ es) zero id s l n h =
       let apart = (none-first name id e es n).0 in
-      let k = other-earlier (name e.0) (name id) (sym (is_less (name e.0) (name id)) ∙ h 0 id (omega arith) (omega arith)) apart in
+      let k = other-earlier (name e.0) (name id) (sym (name_less (name e.0) (name id)) ∙ h 0 id (omega arith) (omega arith)) apart in
       rw k refl
   at-place (e ∷ es) (suc i) id s l n h =
       let rest = (none-first name id e es n).1 in
       let long = within es i (id, s) (omega arith) in
       let far = sorted_far (λ x y. is_lt (key_cmp name x y)) (ranks_by (key_total name) (λ x. x)) (keys_of (e ∷ insert es i (id, s))) h 0 (suc i) id (omega arith) (omega arith) in
       let k : is_earlier (name id) (name e.0) ≡ false =
-          sym (is_less (name id) (name e.0)) ∙ sym (ap (λ x. is_lt (key_cmp name x e.0)) (name_at es i (id, s) id (omega arith))) ∙ far in
+      sym (name_less (name id) (name e.0)) ∙ sym (ap (λ x. is_lt (key_cmp name x e.0)) (name_at es i (id, s) id (omega arith))) ∙ far in
       rw k (ap (λ xs. e ∷ xs) (at-place es i id s (omega arith) rest (sorted-tail name e.0 (keys_of (insert es i (id, s))) h)))
 
   -- a name that isn't there goes last, before it is moved
@@ -69,7 +70,7 @@ module _ {K X : Type 0} (name : K → Name) where
       go : (b : Bool) → same name id e.0 ≡ b → is_some (cond b (Some e.1) (lookup (same name id) es)) ≡ false
           → (is_some (lookup (same name id) es) ≡ false → (insert_entry (same name) es id s ≡ es ++ (id, s) ∷ []) × (position_or_len (same name id) (keys_of es) ≡ length es))
           → (insert_entry (same name) (e ∷ es) id s ≡ e ∷ es ++ (id, s) ∷ [])
-            × (position_or_len (same name id) (keys_of (e ∷ es)) ≡ length (e ∷ es))
+          × (position_or_len (same name id) (keys_of (e ∷ es)) ≡ length (e ∷ es))
       go true b h more = absurd (true≢false h)
       go false b h more = let m = more h in let p = m.1 in rw b (ap (λ xs. e ∷ xs) m.0, omega arith)
 

@@ -83,7 +83,7 @@ broken_on last more calls broken =
 broken_after : (last more : List Ask) (calls : List Call) → BrokenOff more calls → BrokenOff (last ++ more) (passed last ++ calls)
 broken_after last more calls broken =
     let whole : last ++ more ≡ (last ++ broken.0) ++ broken.1 ∷ broken.2 =
-        ap (λ asks. last ++ asks) broken.3 ∙ sym (append_assoc last broken.0 (broken.1 ∷ broken.2)) in
+    ap (λ asks. last ++ asks) broken.3 ∙ sym (append_assoc last broken.0 (broken.1 ∷ broken.2)) in
     let made : passed last ++ calls ≡ failed_at (last ++ broken.0) broken.1 =
     ap (λ c. passed last ++ c) broken.4 ∙ sym (append_assoc (passed last) (passed broken.0) (call broken.1 true ∷ []))
     ∙ ap (λ c. c ++ call broken.1 true ∷ []) (sym (passed_then last broken.0)) in
@@ -135,10 +135,6 @@ pub memory_asks : {H : Type 0} (called : H → Call → H → Type 0) (reads las
 memory_asks called reads last host = asks_nothing called reads last Memory host (memory_is_other Memory refl)
 
 -- ---- files that are written
-
--- none is named
-pub none_written : {H : Type 0} (called : H → Call → H → Type 0) (host : H) → Asks called [] [] None host host
-none_written called host = ([], refl, refl)
 
 pub one_written : {H : Type 0} (called : H → Call → H → Type 0) (name : List ℕ) (old new : H) → called old (call (Writing name) false) new
     → Asks called [] (Writing name ∷ []) None old new

@@ -144,10 +144,6 @@ screen_on (Err x) e old new told counts = subst (λ f. Counts (is_of_screen f) o
 pub counts_later : (failing : Bool) (old middle new : ℕ) → middle ≡ old → Counts failing middle new → Counts failing old new
 counts_later failing old middle new same counts = subst (λ n. Counts failing n new) same counts
 
--- or counts, and then stays
-pub counts_before : (failing : Bool) (old middle new : ℕ) → new ≡ middle → Counts failing old middle → Counts failing old new
-counts_before failing old middle new same counts = subst (λ n. Counts failing old n) (sym same) counts
-
 -- ---- the failures of the host
 
 -- what a later step tells

@@ -11,6 +11,7 @@ use Rattle.zed_op.proofs.SetLaws.{each-with_edit}
 use Rattle.zed_history.specs.Finding.{AllBelow, edit_with}
 use Rattle.zed_history.proofs.Times.{later-all}
 use Rattle.zed_document.specs.Replica.{Replica}
+use Rattle.zed_document.proofs.Fronts.{accepted_free}
 use Rattle.zed_document.specs.declared.delivered.Delivered.{Delivered}
 use Rattle.zed_document.specs.Delivery.{Answers, AnswersAt, AnswersEach, AnswersFit, DeliversEach, IsFree, after_edit}
 use Rattle.zed_document.specs.declared.error.DocumentError.{DocumentError}
@@ -23,9 +24,6 @@ done = Ok tt
 abbrev refused : DocumentError → Result (Unit {0}) DocumentError
 refused e = Err e
 
-abbrev told : Delivered → Result Delivered DocumentError
-told d = Ok d
-
 abbrev not_told : DocumentError → Result Delivered DocumentError
 not_told e = Err e
 
@@ -35,16 +33,6 @@ at_fit : (d : Replica) (e : Edit) (r : Result Delivered DocumentError) → d.is_
 at_fit d e r sound fits a =
     let b = subst (λ s. MatchBool s (r ≡ Err document.Stale) (AnswersFit (fault e) d.edits e r)) sound a in
     subst (λ c. AnswersFit c d.edits e r) fits b
-
--- one that was accepted is free
-accepted_free : (o : Option Edit) (es : List Edit) (e : Edit) (d : Delivered) → o ≡ edit_with e.stamp es → AnswersAt o es e (Ok d)
-    → IsFree es e
-accepted_free None es e d is a = rw (← is) tt
-accepted_free (Some f) es e d is a =
-    elim a [
-      | inl same ↦ rw (← is) same.0
-      | inr clash ↦ absurd (let no : told d ≡ not_told (document.Clash e.stamp) = clash.1 in cc)
-    ]
 
 -- one that is free isn't refused
 free_accepted : (o : Option Edit) (es : List Edit) (e : Edit) (why : DocumentError) → o ≡ edit_with e.stamp es → IsFree es e

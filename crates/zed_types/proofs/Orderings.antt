@@ -1,5 +1,7 @@
 -- What the orders of numbers, stamps and names answer, by the tests on them.
 use Rattle.std.proofs.Common.{◌≡◌, ◌∙◌, ℕ, Bool, true, false, cond, ◌||◌, ◌&&◌, eqb, ltb, refl, sym, true≢false, arith}
+use Rattle.std.specs.Cmp.{IsTotalOrder, on_total, then_total}
+use Rattle.std.proofs.lemmas.Cmp.{nat_cmp_total}
 use Rattle.std.proofs.lemmas.Bool.Decides.{nat_tests}
 use Rattle.std.specs.declared.cmp.Ordering.{Ordering}
 use Rattle.std.specs.declared.cmp.Ordering.TheVariants.{Less, Equal, Greater}
@@ -7,7 +9,7 @@ use Rattle.std.specs.Ordering.{is_eq, is_lt, match_ordering, nat_cmp, ordering_t
 use Rattle.zed_types.specs.declared.stamp.Stamp.{Stamp}
 use Rattle.zed_types.specs.declared.names.Name.{Name}
 use Rattle.zed_types.specs.Stamp.{before, same_stamp, stamp_cmp}
-use Rattle.zed_types.specs.Names.{same_name}
+use Rattle.zed_types.specs.Names.{is_earlier, name_cmp, same_name}
 
 pub equal_from : (r : Ordering) → is_eq r ≡ true → r ≡ Equal
 equal_from Less h = absurd (true≢false (sym h))
@@ -53,3 +55,28 @@ by_tests {X} a b x y z = go (ltb a.time b.time) (eqb a.time b.time) (ltb a.repli
     go false true false true = refl
     go false true false false = refl
     go false false r s = refl
+
+-- names are in one order
+pub name_total : IsTotalOrder name_cmp
+name_total =
+    then_total
+    (then_total (on_total (λ (x : Name). x.stamp.time) nat_cmp_total) (on_total (λ (x : Name). x.stamp.replica) nat_cmp_total))
+    (on_total (λ (x : Name). x.index) nat_cmp_total)
+
+-- what comparing says of three parts, by the tests on each
+three_parts : (a b c d e f : Bool)
+    → is_lt (ordering_then (ordering_then (cond a Less (cond b Equal Greater)) (cond c Less (cond d Equal Greater))) (cond e Less (cond f Equal Greater)))
+    ≡ ((a || (b && c)) || ((b && d) && e))
+three_parts true b c d e f = refl
+three_parts false true true d e f = refl
+three_parts false true false true true f = refl
+three_parts false true false true false true = refl
+three_parts false true false true false false = refl
+three_parts false true false false e f = refl
+three_parts false false c d e f = refl
+
+-- a name compares as less where it is earlier
+pub name_less : (a b : Name) → is_lt (name_cmp a b) ≡ is_earlier a b
+name_less a b =
+    three_parts (ltb a.stamp.time b.stamp.time) (eqb a.stamp.time b.stamp.time) (ltb a.stamp.replica b.stamp.replica) (eqb a.stamp.replica b.stamp.replica)
+    (ltb a.index b.index) (eqb a.index b.index)

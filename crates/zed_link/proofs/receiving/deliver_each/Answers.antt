@@ -4,7 +4,7 @@ use Rattle.std.proofs.lemmas.Result.{err_from_is_err_and}
 use Rattle.zed_link.specs.declared.error.LinkError.TheVariants.{Memory}
 use Rattle.zed_link.specs.Tally.{tally}
 use Rattle.zed_link.proofs.Deliveries.{counted_more, delivered_more, one_behind, one_stops}
-use Rattle.zed_link.proofs.Falls.{falls_more}
+use Rattle.zed_document.proofs.Fronts.{falls_more}
 use Rattle.zed_link.proofs.Outcomes.{refused}
 use Rattle.zed_link.proofs.Tallies.{tally_below}
 use Rattle.zed_link.proofs.receiving.deliver_each.Goals as goal
@@ -32,7 +32,7 @@ count-requires-clause-taken c =
     let more : length c.args.edits.items ≡ length (old.done ++ c.loop-edit.edit-iterator.rest.items) = ap length old.whole in
     let sum = length-append old.done c.loop-edit.edit-iterator.rest.items in
     let next : length c.loop-edit.edit-iterator.rest.items ≡ length (c.in-Some.edit ∷ c.next.new.self.rest.items) =
-        ap length c.in-Some.ensures.steps.0 in
+    ap length c.in-Some.ensures.steps.0 in
     let ok = c.args.edits.ok in
     let small = c.args.edits.small in
     omega (arith, ok, small)
@@ -44,7 +44,7 @@ count-requires-clause-held c =
     let more : length c.args.edits.items ≡ length (old.done ++ c.loop-edit.edit-iterator.rest.items) = ap length old.whole in
     let sum = length-append old.done c.loop-edit.edit-iterator.rest.items in
     let next : length c.loop-edit.edit-iterator.rest.items ≡ length (c.in-Some.edit ∷ c.next.new.self.rest.items) =
-        ap length c.in-Some.ensures.steps.0 in
+    ap length c.in-Some.ensures.steps.0 in
     let ok = c.args.edits.ok in
     let small = c.args.edits.small in
     omega (arith, ok, small)
@@ -56,7 +56,7 @@ count-requires-clause-known c =
     let more : length c.args.edits.items ≡ length (old.done ++ c.loop-edit.edit-iterator.rest.items) = ap length old.whole in
     let sum = length-append old.done c.loop-edit.edit-iterator.rest.items in
     let next : length c.loop-edit.edit-iterator.rest.items ≡ length (c.in-Some.edit ∷ c.next.new.self.rest.items) =
-        ap length c.in-Some.ensures.steps.0 in
+    ap length c.in-Some.ensures.steps.0 in
     let ok = c.args.edits.ok in
     let small = c.args.edits.small in
     omega (arith, ok, small)

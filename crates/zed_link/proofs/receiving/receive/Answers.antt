@@ -1,6 +1,6 @@
 use Rattle.std.proofs.Common.{◌∙◌, ap}
 use Rattle.zed_document.specs.Replica.{Replica}
-use Rattle.zed_link.proofs.Falls.{falls_between}
+use Rattle.zed_document.proofs.Fronts.{falls_between}
 use Rattle.zed_link.proofs.receiving.receive.Goals as goal
 
 pub returns-clause-stale : goal.returns-clause-stale

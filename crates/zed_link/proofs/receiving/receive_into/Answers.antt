@@ -4,7 +4,7 @@ use Rattle.zed_link.specs.declared.error.LinkError.TheVariants.{LinkFault, Memor
 use Rattle.zed_link.specs.Refusals.{file_refusal}
 use Rattle.zed_link.specs.Pull.{most_reads}
 use Rattle.zed_link.proofs.EndsLaws.{one_within}
-use Rattle.zed_link.proofs.Falls.{falls_more}
+use Rattle.zed_document.proofs.Fronts.{falls_more}
 use Rattle.zed_link.proofs.Outcomes.{ends_cut, ends_well, goes_on, piece_refused, read_failed, refused, room, turns_over}
 use Rattle.zed_link.proofs.Paces.{piece_keeps_pace}
 use Rattle.zed_link.proofs.receiving.receive_into.Goals as goal
