@@ -46,6 +46,7 @@ fn play_whole<A: Atlas, T: Terminal, I: Inputs, C: Chance>(
         (I.input_failures inputs.old) (I.input_failures inputs.new) }
     ensures screen_faults { Counts (is_screen_fault result)
         (T.draw_failures terminal.old) (T.draw_failures terminal.new) }
+    ensures left { T.times_left terminal.new ≡ T.times_left terminal.old }
     ensures other { IfErr result (λ e. e ≢ Refusal.File) }
 {
     match play_from(alloc, atlas, play, words, rows, terminal, inputs, chance) {
@@ -83,6 +84,7 @@ pub(crate) fn play_board<T: Terminal, I: Inputs, C: Chance>(
         (I.input_failures inputs.old) (I.input_failures inputs.new) }
     ensures screen_faults { Counts (is_screen_fault result)
         (T.draw_failures terminal.old) (T.draw_failures terminal.new) }
+    ensures left { T.times_left terminal.new ≡ T.times_left terminal.old }
     ensures other { IfErr result (λ e. e ≢ Refusal.File) }
 {
     let begun = opened(alloc, document, going, board)?;
@@ -129,6 +131,7 @@ pub fn perform<H: Host, T: Terminal, I: Inputs, C: Chance>(
         (I.input_failures inputs.old) (I.input_failures inputs.new) }
     ensures screen_faults { Counts (is_screen_fault result)
         (T.draw_failures terminal.old) (T.draw_failures terminal.new) }
+    ensures left { T.times_left terminal.new ≡ T.times_left terminal.old }
     ensures asked { Asks H.called (reading (texts_of files.now)) [] (refusal_in result) host.old host.new }
     ensures failures { TellsFailures H.faults H.failed result host.old host.new }
 {

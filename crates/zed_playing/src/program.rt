@@ -7,6 +7,7 @@ ghost use Rattle.zed_files.specs.Asked.{refusal_in};
 ghost use Rattle.zed_files.specs.Faults.{TellsFailures};
 ghost use Rattle.zed_files.specs.Refusals.{is_key_fault, is_screen_fault};
 ghost use Rattle.zed_files.specs.Texts.{text_in, texts_of};
+ghost use Rattle.zed_turns.specs.Devices.{once_more};
 ghost use Rattle.zed_playing.specs.Asking.{AsksPlay, keeping};
 ghost use Rattle.zed_playing.specs.Ending.{EndsKept, EndsPlay, request};
 ghost use Rattle.zed_playing.specs.Led.{devices, led};
@@ -46,6 +47,7 @@ fn play_and_keep<H: Host, T: Terminal, I: Inputs, C: Chance>(
         (I.input_failures console.old.inputs.source) (I.input_failures console.new.inputs.source) }
     ensures screen_faults { Counts (is_screen_fault result)
         (T.draw_failures console.old.terminal) (T.draw_failures console.new.terminal) }
+    ensures left { T.times_left console.new.terminal ≡ T.times_left console.old.terminal }
     ensures failures { TellsFailures H.faults H.failed result host.old host.new }
 {
     let kept = read_kept(alloc, host, words, keys)?;
@@ -74,7 +76,7 @@ fn play_and_keep<H: Host, T: Terminal, I: Inputs, C: Chance>(
 /// Plays a board of the world of edit files in place, as `perform` does, and keeps it: what is in
 /// the files of two names, if there are such, is played first, words of chance by the one and keys
 /// by the other; then comes what is typed. At the end both files have what was played, and the one
-/// of keys those behind the end. The terminal is left, however it ends, and then what is told of the
+/// of keys those behind the end. The terminal is left once, however it ends, and then what is told of the
 /// playtest is printed.
 ///
 /// # Errors
@@ -102,6 +104,8 @@ pub fn play<H: Host, T: Terminal, I: Inputs, C: Chance>(
         (keeping (text_in words.entry) (text_in keys.entry) ++ Printing ∷ []) (refusal_in result)
         host.old host.new }
     ensures left { T.is_entered console.new.terminal ≡ false }
+    ensures once { T.times_left console.new.terminal
+        ≡ once_more (T.times_left console.old.terminal) }
     ensures key_faults { Counts (is_key_fault result)
         (I.input_failures console.old.inputs.source) (I.input_failures console.new.inputs.source) }
     ensures screen_faults { Counts (is_screen_fault result)

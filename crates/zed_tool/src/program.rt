@@ -1,10 +1,11 @@
 //! The program, over any host.
-ghost use Rattle.std.specs.Prelude.{◌≡◌, ◌≤◌, ◌⊎◌, ℕ, IsSome, List, Some, false, map, string_bytes};
+ghost use Rattle.std.specs.Prelude.{◌≡◌, ◌≤◌, ◌⊎◌, ℕ, IsSome, List, Some, false, map, string_bytes, true};
 ghost use Rattle.zed_op.specs.declared.op.Edit.{Edit as TheEdit};
 ghost use Rattle.zed_op.specs.Set.{set_of};
 ghost use Rattle.zed_world.specs.Contents.{Contents};
 ghost use Rattle.zed_host.specs.Counting.{NothingFailed, Rose};
 ghost use Rattle.zed_host.specs.HostContents.{HostContents};
+ghost use Rattle.zed_turns.specs.Devices.{AtMostOnce, once_more};
 ghost use Rattle.zed_playing.specs.Led.{devices, led};
 ghost use Rattle.zed_tool_words.specs.Commands.{AsksHelp, AsksVersion, Command as Asked, command_of, meaning_of};
 ghost use Rattle.zed_tool_words.specs.Version.{version_text};
@@ -75,6 +76,8 @@ fn act<'a, H: Host, T: Terminal, I: Inputs, C: Chance>(
     ensures idle { is_playtest (meaning_of command.now) ≡ false → console.new ≡ console.old }
     ensures left { T.is_entered console.old.terminal ≡ false
         → T.is_entered console.new.terminal ≡ false }
+    ensures once { is_playtest (meaning_of command.now) ≡ true
+        → T.times_left console.new.terminal ≡ once_more (T.times_left console.old.terminal) }
 {
     match command {
         Command::Open {
@@ -196,6 +199,8 @@ fn run_words<H: Host, T: Terminal, I: Inputs, C: Chance>(
         → console.new ≡ console.old }
     ensures left { T.is_entered console.old.terminal ≡ false
         → T.is_entered console.new.terminal ≡ false }
+    ensures once { AtMostOnce (T.times_left console.old.terminal)
+        (T.times_left console.new.terminal) }
 {
     match parse(alloc, words) {
         Ok(command) => match act(alloc, host, console, &command) {
@@ -237,11 +242,14 @@ pub fn run<H: Host, T: Terminal, I: Inputs, C: Chance>(
         console.old console.new)
         (map string_bytes words.now) result host.old host.new }
 
-    // The devices are called only where words ask to play, and the terminal is left then.
+    // The devices are called only where words ask to play, and the terminal is left then, at most once: not at all where memory runs out
+    // before.
     ensures idle { plays (command_of (map string_bytes words.now)) ≡ false
         → console.new ≡ console.old }
     ensures left { T.is_entered console.old.terminal ≡ false
         → T.is_entered console.new.terminal ≡ false }
+    ensures once { AtMostOnce (T.times_left console.old.terminal)
+        (T.times_left console.new.terminal) }
 
     // Where its `failures()` stay as they were, nothing failed.
     ensures calm { H.faults host.old ≤ H.failed host.old

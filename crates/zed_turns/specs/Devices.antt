@@ -1,10 +1,18 @@
 -- What a terminal and a source of chance tell.
-use Rattle.std.specs.Prelude.{◌≡◌, ◌⊎◌, ℕ, List, [], ◌∷◌, ◌++◌, Option, length, option_map}
+use Rattle.std.specs.Prelude.{◌≡◌, ◌⊎◌, ◌+◌, ℕ, List, [], ◌∷◌, ◌++◌, Option, length, option_map}
 use Rattle.zed_host.specs.Counting.{Rose}
 
 -- a text was drawn behind those before, if the terminal tells what was drawn
 abbrev pub drawing : List ℕ → Option (List (List ℕ)) → Option (List (List ℕ))
 drawing text = option_map (λ texts. texts ++ text ∷ [])
+
+-- a terminal was left once more, if it tells how often it was
+abbrev pub once_more : Option ℕ → Option ℕ
+once_more = option_map (λ times. times + 1)
+
+-- it was left once, or not at all
+abbrev pub AtMostOnce : Option ℕ → Option ℕ → Type 0
+AtMostOnce old new = (new ≡ old) ⊎ (new ≡ once_more old)
 
 -- these words came from a source of chance, the first that were to come, if it tells them
 abbrev pub Brings : List ℕ → Option (List ℕ) → Option (List ℕ) → Type 0

@@ -2,7 +2,7 @@
 ghost use Rattle.std.specs.Prelude.{◌≡◌, ℕ, Bool, List, Option, IfOk, OnErr, OnOk, false, is_err, is_some};
 ghost use Rattle.zed_host.specs.Counting.{Counts};
 ghost use Rattle.zed_staging.specs.Devices.{Foretold};
-ghost use Rattle.zed_turns.specs.Devices.{Brings, drawing};
+ghost use Rattle.zed_turns.specs.Devices.{Brings, drawing, once_more};
 
 use zed_staging::DeviceFailed;
 
@@ -11,6 +11,9 @@ use zed_staging::DeviceFailed;
 pub trait Terminal: Drop {
     /// Whether what is drawn is still shown.
     ghost is_entered: { Self → Bool };
+
+    /// How often it was left; or that this isn't told.
+    ghost times_left: { Self → Option ℕ };
 
     /// The texts that were drawn, in their order; or that this isn't told.
     ghost drawn: { Self → Option (List (List ℕ)) };
@@ -26,6 +29,7 @@ pub trait Terminal: Drop {
     fn draw(&mut self, text: &[u8]) -> Result<(), DeviceFailed>
         ensures ok { OnOk result (drawn self.new ≡ drawing text.now (drawn self.old)) }
         ensures err { OnErr result (is_some (drawn self.new) ≡ is_some (drawn self.old)) }
+        ensures left { times_left self.new ≡ times_left self.old }
         ensures failures { Counts (is_err result) (draw_failures self.old) (draw_failures self.new) }
         ensures foretold { Foretold (is_err result)
             (draws_foretell self.old) (draws_foretell self.new) };
@@ -33,6 +37,7 @@ pub trait Terminal: Drop {
     /// Shows what stood there before the first text again. What can't be told any more isn't.
     fn leave(&mut self)
         ensures left { is_entered self.new ≡ false }
+        ensures once { times_left self.new ≡ once_more (times_left self.old) }
         ensures drawn { drawn self.new ≡ drawn self.old }
         ensures failures { draw_failures self.new ≡ draw_failures self.old }
         ensures foretold { draws_foretell self.new ≡ draws_foretell self.old };

@@ -44,6 +44,7 @@ pub fn play_from<A: Atlas, T: Terminal, I: Inputs, C: Chance>(
         (I.input_failures inputs.old) (I.input_failures inputs.new) }
     ensures screen_faults { Counts (is_screen_fault result)
         (T.draw_failures terminal.old) (T.draw_failures terminal.new) }
+    ensures left { T.times_left terminal.new ≡ T.times_left terminal.old }
 {
     let mut tape = Tape::new(play, words, rows);
     show(alloc, &tape, terminal)?;

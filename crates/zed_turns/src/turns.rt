@@ -43,6 +43,7 @@ fn draw<T: Terminal>(terminal: &mut T, text: &[u8]) -> Result<(), TurnError>
         × Foretold true (T.draws_foretell terminal.old) (T.draws_foretell terminal.new)) }
     ensures failures { Counts (is_screen_fault result)
         (T.draw_failures terminal.old) (T.draw_failures terminal.new) }
+    ensures left { T.times_left terminal.new ≡ T.times_left terminal.old }
 {
     match terminal.draw(text) {
         Ok(()) => Ok(()),
@@ -64,6 +65,7 @@ pub(crate) fn show<T: Terminal>(
         × Foretold true (T.draws_foretell terminal.old) (T.draws_foretell terminal.new))) }
     ensures failures { Counts (is_screen_fault result)
         (T.draw_failures terminal.old) (T.draw_failures terminal.new) }
+    ensures left { T.times_left terminal.new ≡ T.times_left terminal.old }
 {
     let text = staged(alloc, &tape.play, tape.rows)?;
     draw(terminal, text.as_slice())
@@ -94,6 +96,7 @@ fn turn<A: Atlas, T: Terminal, I: Inputs, C: Chance>(
     ensures calm { (result ≢ Err TurnError.NoWords)
         → C.chance_failures chance.new ≡ C.chance_failures chance.old }
     ensures within { tape.new.used ≤ length tape.new.words.items }
+    ensures left { T.times_left terminal.new ≡ T.times_left terminal.old }
 {
     let Some(input) = next_input(inputs)? else {
         return Ok(false);
@@ -133,6 +136,7 @@ pub fn play_on<A: Atlas, T: Terminal, I: Inputs, C: Chance>(
     ensures calm { (result ≢ Err TurnError.NoWords)
         → C.chance_failures chance.new ≡ C.chance_failures chance.old }
     ensures within { tape.new.used ≤ length tape.new.words.items }
+    ensures left { T.times_left terminal.new ≡ T.times_left terminal.old }
 {
     for _ in 0..MOST_TURNS {
         if tape.play.ending().is_some() {

@@ -64,6 +64,8 @@ impl Display {
 impl Terminal for Display {
     ghost is_entered = { λ d. d.is_entered };
 
+    ghost times_left = { λ _. None };
+
     ghost drawn = { λ _. None };
 
     ghost draw_failures = { λ d. d.failures };

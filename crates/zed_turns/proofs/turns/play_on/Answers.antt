@@ -13,5 +13,6 @@ loop-preserved g c =
       within = c.in_ok-turn.ensures.within;
       keys = c.in_ok-turn.ensures.key_faults ∙ old.keys;
       screen = c.in_ok-turn.ensures.screen_faults ∙ old.screen;
+      left = c.in_ok-turn.ensures.left ∙ old.left;
       calm = c.in_ok-turn.ensures.calm (λ is. cc) ∙ old.calm;
     }

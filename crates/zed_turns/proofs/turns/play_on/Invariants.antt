@@ -4,7 +4,7 @@ use Rattle.zed_turns.specs.Devices.{chances}
 use Rattle.zed_turns.specs.Stage.{stage}
 use Rattle.zed_turns.proofs.turns.play_on.Given as goal
 
--- so many turns were made and drawn, and no device failed
+-- so many turns were made and drawn, and no device failed; nor was the terminal left
 abbrev pub invariant-loop : goal.invariant-loop
 invariant-loop g l = record {
   plays : Plays (g.A.Atlas.world l.fn.atlas) l.counter
@@ -15,5 +15,6 @@ invariant-loop g l = record {
   within : l.tape.used ≤ length l.tape.words.items;
   keys : g.I.Inputs.input_failures l.inputs ≡ g.I.Inputs.input_failures l.fn.inputs;
   screen : g.T.Terminal.draw_failures l.terminal ≡ g.T.Terminal.draw_failures l.fn.terminal;
+  left : g.T.Terminal.times_left l.terminal ≡ g.T.Terminal.times_left l.fn.terminal;
   calm : g.C.Chance.chance_failures l.chance ≡ g.C.Chance.chance_failures l.fn.chance;
 }
