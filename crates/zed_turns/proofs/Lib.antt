@@ -3,6 +3,7 @@ mod Coming
 mod Messages
 mod Queued
 mod ReadBack
+mod Room
 mod Staying
 mod Supply
 mod Turning

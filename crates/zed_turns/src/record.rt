@@ -1,5 +1,5 @@
 //! A playtest as it is kept in two files: its keys, and its words of chance.
-ghost use Rattle.std.specs.Prelude.{◌≡◌, ◌++◌, IfOk, OnOk};
+ghost use Rattle.std.specs.Prelude.{◌≡◌, ◌<◌, ◌≤◌, ◌+◌, ◌++◌, IfOk, OnErr, OnOk, length, vec_capacity, vec_len};
 ghost use Rattle.zed_turns.specs.Record.{key_of, keys_in, letter_of, letters_of, listed, spelled, spelled_all, words_in};
 
 use std::alloc::{AllocError, Global};
@@ -42,7 +42,8 @@ fn key_of(byte: u8) -> Option<Key>
 
 /// Appends a key, if there is one.
 fn put_key(out: &mut Vec<Key>, key: Option<Key>) -> Result<(), AllocError>
-    ensures { OnOk result (out.new.items ≡ out.old.items ++ listed key) }
+    ensures ok { OnOk result (out.new.items ≡ out.old.items ++ listed key) }
+    ensures memory_only_when { OnErr result (0 < length (listed key)) }
 {
     if let Some(key) = key {
         out.push(key)?;
@@ -50,9 +51,10 @@ fn put_key(out: &mut Vec<Key>, key: Option<Key>) -> Result<(), AllocError>
     Ok(())
 }
 
-/// The keys of a file. What is no letter of a key is passed over.
+/// The keys of a file. What is no letter of a key is passed over. Memory comes only if there is a key.
 pub fn keys_in(alloc: Global, bytes: &[u8]) -> Result<Vec<Key>, AllocError>
-    ensures { IfOk result (λ keys. keys.items ≡ keys_in bytes.now) }
+    ensures ok { IfOk result (λ keys. keys.items ≡ keys_in bytes.now) }
+    ensures memory_only_when { OnErr result (0 < length (keys_in bytes.now)) }
 {
     let mut keys = Vec::new(alloc);
     for byte in bytes {
@@ -61,9 +63,12 @@ pub fn keys_in(alloc: Global, bytes: &[u8]) -> Result<Vec<Key>, AllocError>
     Ok(keys)
 }
 
-/// Appends the letters of keys.
+/// Appends the letters of keys. Memory comes only if the vector has no room for them.
 pub fn put_letters(out: &mut Vec<u8>, keys: &[Key]) -> Result<(), AllocError>
-    ensures { OnOk result (out.new.items ≡ out.old.items ++ letters_of keys.now) }
+    ensures ok { OnOk result (out.new.items ≡ out.old.items ++ letters_of keys.now) }
+    ensures memory_only_when { OnErr result
+        (vec_capacity out.old < vec_len out.old + length keys.now) }
+    ensures capacity { vec_capacity out.old ≤ vec_capacity out.new }
 {
     for key in keys {
         out.push(letter_of(*key))?;
@@ -71,9 +76,10 @@ pub fn put_letters(out: &mut Vec<u8>, keys: &[Key]) -> Result<(), AllocError>
     Ok(())
 }
 
-/// The words of a file.
+/// The words of a file. Memory comes only if there is a word.
 pub fn words_in(alloc: Global, bytes: &[u8]) -> Result<Vec<u16>, AllocError>
-    ensures { IfOk result (λ words. words.items ≡ words_in bytes.now) }
+    ensures ok { IfOk result (λ words. words.items ≡ words_in bytes.now) }
+    ensures memory_only_when { OnErr result (0 < length (words_in bytes.now)) }
 {
     let mut words = Vec::new(alloc);
     let mut rest = bytes;
@@ -87,16 +93,22 @@ pub fn words_in(alloc: Global, bytes: &[u8]) -> Result<Vec<u16>, AllocError>
 
 /// Appends a word as two bytes.
 fn put_word(out: &mut Vec<u8>, word: u16) -> Result<(), AllocError>
-    ensures { OnOk result (out.new.items ≡ out.old.items ++ spelled word) }
+    ensures ok { OnOk result (out.new.items ≡ out.old.items ++ spelled word) }
+    ensures memory_only_when { OnErr result
+        (vec_capacity out.old < vec_len out.old + length (spelled word)) }
+    ensures capacity { vec_capacity out.old ≤ vec_capacity out.new }
 {
     out.push((word % 256) as u8)?;
     out.push((word / 256) as u8)?;
     Ok(())
 }
 
-/// Appends words, two bytes each.
+/// Appends words, two bytes each. Memory comes only if the vector has no room for them.
 pub fn put_words(out: &mut Vec<u8>, words: &[u16]) -> Result<(), AllocError>
-    ensures { OnOk result (out.new.items ≡ out.old.items ++ spelled_all words.now) }
+    ensures ok { OnOk result (out.new.items ≡ out.old.items ++ spelled_all words.now) }
+    ensures memory_only_when { OnErr result
+        (vec_capacity out.old < vec_len out.old + length (spelled_all words.now)) }
+    ensures capacity { vec_capacity out.old ≤ vec_capacity out.new }
 {
     for word in words {
         put_word(out, *word)?;

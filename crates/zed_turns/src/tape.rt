@@ -1,5 +1,5 @@
 //! A playtest with what it came of.
-ghost use Rattle.std.specs.Prelude.{◌≡◌, ◌≢◌, ◌+◌, ◌⊎◌, ◌≤◌, ◌++◌, ◌∷◌, ℕ, [], Err, IfErr, List, None, Ok, OnOk, drop, false, length, true};
+ghost use Rattle.std.specs.Prelude.{◌≡◌, ◌≢◌, ◌+◌, ◌⊎◌, ◌<◌, ◌≤◌, ◌++◌, ◌∷◌, ℕ, [], Err, IfErr, List, None, Ok, OnErr, OnOk, drop, false, length, true, vec_capacity, vec_len};
 ghost use Rattle.zed_play.specs.Step.{Steps};
 ghost use Rattle.zed_host.specs.Counting.{Counts};
 ghost use Rattle.zed_turns.specs.Devices.{Brings, chances};
@@ -83,6 +83,8 @@ impl Tape {
             × Brings last (C.to_come chance.old) (C.to_come chance.new)) }
         ensures err { IfErr result (λ e. (e ≡ TurnError.Memory) ⊎ ((e ≡ TurnError.NoWords)
             × (C.to_come chance.new ≡ C.to_come chance.old))) }
+        ensures memory_only_when { result ≡ Err TurnError.Memory
+            → vec_capacity self.old.words < vec_len self.old.words + 32 }
         ensures failures { Counts (is_chance_fault result)
             (C.chance_failures chance.old) (C.chance_failures chance.new) }
         ensures grown { length self.old.words.items ≤ length self.new.words.items }
@@ -129,6 +131,8 @@ impl Tape {
     /// Keeps a key.
     fn keep(&mut self, key: Key) -> Result<(), AllocError>
         ensures keys { OnOk result (self.new.keys.items ≡ self.old.keys.items ++ key ∷ []) }
+        ensures memory_only_when { OnErr result
+            (vec_capacity self.old.keys < vec_len self.old.keys + 1) }
         ensures play { self.new.play ≡ self.old.play }
         ensures words { self.new.words ≡ self.old.words }
         ensures used { self.new.used ≡ self.old.used }
