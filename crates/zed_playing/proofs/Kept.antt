@@ -18,7 +18,7 @@ use Rattle.zed_turns.specs.Record.{spelled_all}
 use Rattle.zed_turns.specs.Stage.{Stage, stage}
 use Rattle.zed_turns.specs.Report.{report_of}
 use Rattle.zed_playing.specs.Ending.{EndsKept, EndsPlay, FailedToKeep, IsPlayed, RefusedBefore, Request, kept_after}
-use Rattle.zed_playing.specs.Kept.{HalfKept, HalfRecorded, key_bytes, with_kept}
+use Rattle.zed_playing.specs.Kept.{HalfKept, HalfRecorded, key_bytes, made_for, with_kept, with_record}
 use Rattle.zed_playing.specs.Led.{Led}
 
 -- ---- files that are written
@@ -38,16 +38,47 @@ pub half_second : (P Q : HostContents → Type 0) (result : Result ⊤ Refusal) 
 half_second P Q (Ok u) new half = tt
 half_second P Q (Err e) new half = (half.0, inr half.1, half.2)
 
+-- bytes that are made only for a file that is named are kept as all of them
+pub kept_as : (name : Option (List ℕ)) (made bytes : List ℕ) (t : HostContents) → made ≡ made_for name bytes
+    → with_kept name made t ≡ with_kept name bytes t
+kept_as None made bytes t is = refl
+kept_as (Some name) made bytes t is = ap (λ b. with_kept (Some name) b t) is
+
+half_as : (name : Option (List ℕ)) (made bytes : List ℕ) (t u : HostContents) → made ≡ made_for name bytes → HalfKept name made t u
+    → HalfKept name bytes t u
+half_as None made bytes t u is half = half
+half_as (Some name) made bytes t u is half = subst (λ b. HalfKept (Some name) b t u) is half
+
 -- what is kept of a playtest
+pub recorded : (words keys : Option (List ℕ)) (p : Point) (rest : List Key) (wb kb : List ℕ) (t : HostContents) (result : Result ⊤ Refusal) (new : Option HostContents)
+    → wb ≡ made_for words (spelled_all p.words) → kb ≡ made_for keys (key_bytes p rest)
+    → OnOk result (new ≡ Some (with_kept keys kb (with_kept words wb t)))
+    → OnOk result (new ≡ Some (with_record words keys p rest t))
+recorded words keys p rest wb kb t (Ok u) new all_words all_keys kept =
+    kept ∙ ap (λ s. Some s) (kept_as keys kb (key_bytes p rest) (with_kept words wb t) all_keys
+    ∙ ap (with_kept keys (key_bytes p rest)) (kept_as words wb (spelled_all p.words) t all_words))
+recorded words keys p rest wb kb t (Err e) new all_words all_keys kept = tt
+
 pub recorded_half : (words keys : Option (List ℕ)) (p : Point) (rest : List Key) (wb kb : List ℕ) (t : HostContents) (result : Result ⊤ Refusal) (new : Option HostContents)
-    → wb ≡ spelled_all p.words → kb ≡ key_bytes p rest
+    → wb ≡ made_for words (spelled_all p.words) → kb ≡ made_for keys (key_bytes p rest)
     → OnErr result (StillTells (λ u. HalfKept words wb t u ⊎ HalfKept keys kb (with_kept words wb t) u) new)
     → IfErr result (λ e. e ≡ File → StillTells (HalfRecorded words keys p rest t) new)
 recorded_half words keys p rest wb kb t (Ok u) new all_words all_keys half = tt
-recorded_half words keys p rest wb kb t (Err e) new all_words all_keys half = λ file.
-    let first = spelled_all p.words in
-    subst (λ k. StillTells (λ u. HalfKept words first t u ⊎ HalfKept keys k (with_kept words first t) u) new) all_keys
-    (subst (λ w. StillTells (λ u. HalfKept words w t u ⊎ HalfKept keys kb (with_kept words w t) u) new) all_words half)
+recorded_half words keys p rest wb kb t (Err e) new all_words all_keys half = λ file. (
+  half.0,
+  elim half.1 [
+    | inl first ↦ inl (half_as words wb (spelled_all p.words) t half.0 all_words first)
+    | inr second ↦ inr (subst (λ s. HalfKept keys (key_bytes p rest) s half.0) (kept_as words wb (spelled_all p.words) t all_words)
+        (half_as keys kb (key_bytes p rest) (with_kept words wb t) half.0 all_keys second))
+  ],
+  half.2,
+)
+
+-- a step that never wants memory
+pub no_memory : {X : Type 0} (P : Refusal → Type 0) (Q : Type 0) (answer : Result X Refusal) → IfErr answer (λ e. (e ≡ File) × P e)
+    → IfErr answer (λ e. e ≡ Memory → Q)
+no_memory P Q (Ok x) err = tt
+no_memory P Q (Err e) err = λ memory. absurd (let no : Memory ≡ File = sym memory ∙ err.0 in cc)
 
 -- ---- what is so where nothing failed is so where something did
 

@@ -1,5 +1,5 @@
 //! Playtests kept in files, and read from them.
-ghost use Rattle.std.specs.Prelude.{[], ◌∷◌, ◌≡◌, ◌⊎◌, ◌++◌, IfErr, IfOk, OnErr, OnOk, Some, map};
+ghost use Rattle.std.specs.Prelude.{[], ◌∷◌, ◌≡◌, ◌⊎◌, ◌<◌, ◌++◌, IfErr, IfOk, OnErr, OnOk, Some, length, map};
 ghost use Rattle.zed_host.specs.Calls.{Writing};
 ghost use Rattle.zed_host.specs.Counting.{Rose};
 ghost use Rattle.zed_host.specs.HostContents.{HalfWritten, HostContents, StillTells, file_in, with_file};
@@ -9,7 +9,7 @@ ghost use Rattle.zed_files.specs.Texts.{text_in};
 ghost use Rattle.zed_turns.specs.Course.{point};
 ghost use Rattle.zed_turns.specs.Record.{keys_in, letters_of, spelled_all, words_in};
 ghost use Rattle.zed_playing.specs.Asking.{AsksBehind, AsksKept, AsksNoMore, keeping};
-ghost use Rattle.zed_playing.specs.Kept.{HalfKept, HalfRecorded, bytes_or_none, kept_in, key_bytes, with_kept, with_record};
+ghost use Rattle.zed_playing.specs.Kept.{HalfKept, HalfRecorded, IsRecorded, bytes_or_none, kept_in, key_bytes, made_for, with_kept, with_record};
 
 use std::alloc::{AllocError, Global};
 use zed_files::Refusal;
@@ -88,7 +88,9 @@ fn keep<H: Host>(host: &mut H, name: Option<&str>, bytes: &[u8]) -> Result<(), R
 
 /// The file of keys that were played, and of others behind them.
 fn letters_in(alloc: Global, keys: &[Key], rest: &[Key]) -> Result<Vec<u8>, AllocError>
-    ensures { IfOk result (λ bytes. bytes.items ≡ letters_of keys.now ++ letters_of rest.now) }
+    ensures ok { IfOk result (λ bytes. bytes.items ≡ letters_of keys.now ++ letters_of rest.now) }
+    ensures memory_only_when { OnErr result
+        (0 < length (letters_of keys.now ++ letters_of rest.now)) }
 {
     let mut bytes = Vec::new(alloc);
     put_letters(&mut bytes, keys)?;
@@ -129,11 +131,43 @@ pub(crate) fn read_kept<H: Host>(
 
 /// The file of words that came.
 fn word_bytes_of(alloc: Global, words: &[u16]) -> Result<Vec<u8>, AllocError>
-    ensures { IfOk result (λ bytes. bytes.items ≡ spelled_all words.now) }
+    ensures ok { IfOk result (λ bytes. bytes.items ≡ spelled_all words.now) }
+    ensures memory_only_when { OnErr result (0 < length (spelled_all words.now)) }
 {
     let mut bytes = Vec::new(alloc);
     put_words(&mut bytes, words)?;
     Ok(bytes)
+}
+
+/// The same, if it is named.
+fn words_for(alloc: Global, name: Option<&str>, words: &[u16]) -> Result<Vec<u8>, AllocError>
+    ensures ok { IfOk result (λ bytes. bytes.items
+        ≡ made_for (text_in name.entry) (spelled_all words.now)) }
+    ensures memory_only_when { OnErr result
+        (0 < length (made_for (text_in name.entry) (spelled_all words.now))) }
+{
+    match name {
+        Some(_) => word_bytes_of(alloc, words),
+        None => Ok(Vec::new(alloc)),
+    }
+}
+
+/// The file of keys that were played, and of others behind them, if it is named.
+fn letters_for(
+    alloc: Global,
+    name: Option<&str>,
+    keys: &[Key],
+    rest: &[Key],
+) -> Result<Vec<u8>, AllocError>
+    ensures ok { IfOk result (λ bytes. bytes.items
+        ≡ made_for (text_in name.entry) (letters_of keys.now ++ letters_of rest.now)) }
+    ensures memory_only_when { OnErr result
+        (0 < length (made_for (text_in name.entry) (letters_of keys.now ++ letters_of rest.now))) }
+{
+    match name {
+        Some(_) => letters_in(alloc, keys, rest),
+        None => Ok(Vec::new(alloc)),
+    }
 }
 
 /// Keeps bytes in the files of two names, the one behind the other.
@@ -160,7 +194,8 @@ fn keep_both<H: Host>(
     keep(host, keys, key_bytes)
 }
 
-/// Keeps a playtest in the files of two names, with keys behind those that were played.
+/// Keeps a playtest in the files of two names, with keys behind those that were played. Memory comes
+/// only if there is something to keep in a file that is named.
 pub(crate) fn keep_all<H: Host>(
     alloc: Global,
     host: &mut H,
@@ -178,12 +213,14 @@ pub(crate) fn keep_all<H: Host>(
     ensures err { IfErr result (λ e.
         ((e ≡ Refusal.Memory) × (H.contents host.new ≡ H.contents host.old))
         ⊎ ((e ≡ Refusal.File) × Rose (H.faults host.old) (H.faults host.new))) }
+    ensures memory_only_when { IfErr result (λ e. e ≡ Refusal.Memory → IsRecorded
+        (text_in words.entry) (text_in keys.entry) (point tape.now) rest.now) }
     ensures asked { Asks H.called [] (keeping (text_in words.entry) (text_in keys.entry))
         (refusal_in result) host.old host.new }
     ensures failures { TellsFailures H.faults H.failed result host.old host.new }
 {
-    let word_bytes = word_bytes_of(alloc, tape.words.as_slice())?;
-    let key_bytes = letters_in(alloc, tape.keys.as_slice(), rest)?;
+    let word_bytes = words_for(alloc, words, tape.words.as_slice())?;
+    let key_bytes = letters_for(alloc, keys, tape.keys.as_slice(), rest)?;
     keep_both(
         host,
         words,
