@@ -68,6 +68,11 @@ abbrev pub on_by : Option Contents → Way → Option Ending → Playtest → Pl
 on_by w way (Some (Left board)) p = or_on (reached w board way p) p
 on_by w way _ p = p
 
+-- a playtest ended so that another one goes on in place of it
+abbrev pub GoesOn : Option Contents → Way → Option Ending → Playtest → Type 0
+GoesOn w way (Some (Left board)) p = is_some (reached w board way p) ≡ true
+GoesOn w way _ p = ⊥
+
 -- where a key leads: to the playtest that its step came to, or on to the next board; from the one before the step
 abbrev pub led_on : Option Contents → Key → Playtest → Playtest → Playtest
 led_on w key p q = on_by w (way_of key p) q.ending q

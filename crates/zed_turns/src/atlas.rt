@@ -1,5 +1,5 @@
 //! The boards over which a playtest goes on, which are handed in.
-ghost use Rattle.std.specs.Prelude.{◌≡◌, Option, IfOk};
+ghost use Rattle.std.specs.Prelude.{◌≡◌, Option, IfOk, OnErr, is_some, true};
 ghost use Rattle.zed_turns.specs.Course.{reached};
 
 use std::alloc::{AllocError, Global};
@@ -14,7 +14,7 @@ pub trait Atlas {
 
     /// The playtest that goes on where the player of one left for a board by a way; or None, where
     /// there is no such board, or playtests don't go on. Only a growth that is refused makes it an
-    /// error.
+    /// error, and only where there is one.
     fn enter(
         &self,
         alloc: Global,
@@ -22,5 +22,7 @@ pub trait Atlas {
         board: u8,
         way: Way,
     ) -> Result<Option<Play>, AllocError>
-        ensures result { IfOk result (λ next. next ≡ reached (world self.now) board way from.now) };
+        ensures result { IfOk result (λ next. next ≡ reached (world self.now) board way from.now) }
+        ensures memory_only_when { OnErr result
+            (is_some (reached (world self.now) board way from.now) ≡ true) };
 }

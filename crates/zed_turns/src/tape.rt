@@ -4,7 +4,7 @@ ghost use Rattle.zed_play.specs.Step.{Steps};
 ghost use Rattle.zed_host.specs.Counting.{Counts};
 ghost use Rattle.zed_turns.specs.Devices.{Brings, chances};
 ghost use Rattle.zed_turns.specs.Errors.{is_chance_fault};
-ghost use Rattle.zed_turns.specs.Course.{Answers, IsSupplied, LacksInput, LacksSupply, LacksWords, PlaysKey, on_by, point};
+ghost use Rattle.zed_turns.specs.Course.{Answers, GoesOn, IsSupplied, LacksInput, LacksSupply, LacksWords, PlaysKey, on_by, point};
 
 use crate::atlas::Atlas;
 use crate::devices::Chance;
@@ -49,7 +49,8 @@ impl Tape {
         }
     }
 
-    /// Makes a step by a key where the words that are left are enough; whether they are.
+    /// Makes a step by a key where the words that are left are enough; whether they are. Memory comes
+    /// only where the step is refused for want of it, with which the playtest has failed.
     fn attempt(&mut self, key: Key) -> Result<bool, TurnError>
         requires within { self.old.used ≤ length self.old.words.items }
         requires going { self.old.play.ending ≡ None }
@@ -60,6 +61,8 @@ impl Tape {
             → LacksWords key self.old.play (drop self.old.used self.old.words.items)
             × (self.new.play ≡ self.old.play) × (self.new.used ≡ self.old.used) }
         ensures err { IfErr result (λ e. e ≡ TurnError.Memory) }
+        ensures memory_only_when { OnErr result (Steps (Err PlayError.Memory) key
+            self.old.play (drop self.old.used self.old.words.items) self.new.play) }
         ensures words { self.new.words ≡ self.old.words }
         ensures keys { self.new.keys ≡ self.old.keys }
         ensures rows { self.new.rows ≡ self.old.rows }
@@ -142,10 +145,12 @@ impl Tape {
         Ok(())
     }
 
-    /// Goes on where the player left by a way for a board that is there.
+    /// Goes on where the player left by a way for a board that is there. Memory comes only then.
     fn go_on<A: Atlas>(&mut self, alloc: Global, atlas: &A, way: Way) -> Result<(), AllocError>
         ensures play { OnOk result (self.new.play
             ≡ on_by (A.world atlas.now) way self.old.play.ending self.old.play) }
+        ensures memory_only_when { OnErr result
+            (GoesOn (A.world atlas.now) way self.old.play.ending self.old.play) }
         ensures keys { self.new.keys ≡ self.old.keys }
         ensures words { self.new.words ≡ self.old.words }
         ensures used { self.new.used ≡ self.old.used }
