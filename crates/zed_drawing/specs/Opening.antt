@@ -15,7 +15,7 @@ use Rattle.zed_export.specs.World.{world_of}
 use Rattle.zed_editfile.specs.Spelling.{file_text}
 use Rattle.zed_take.specs.Taken.{Shows}
 use Rattle.zed_host.specs.Calls.{Call, Reading, call}
-use Rattle.zed_host.specs.HostContents.{HostContents}
+use Rattle.zed_host.specs.HostContents.{HostContents, file_in}
 use Rattle.zed_files.specs.Lines.{bytes_line}
 use Rattle.zed_files.specs.Refusals.{export_refusal}
 use Rattle.zed_drawing.specs.Base.{BaseReads, FindsBase, beside, edits_of_base}
@@ -90,21 +90,42 @@ abbrev pub ComesToOpen : Type 0 → HostContents → Option ℕ → Forcing → 
 ComesToOpen failed t until forcing file world r =
     Steps (OpensAs failed t None file) (λ f. Shown failed t until forcing f file world) r
 
--- what is read of a world file's base: nothing, where that isn't needed
-abbrev pub MayReadBase : List ℕ → List ℕ → List Call → Type 0
-MayReadBase file base calls = (calls ≡ []) ⊎ BaseReads Optional base file calls
+-- the bytes of a world file read as another world than these edits show
+abbrev pub ShowsOther : List Edit → List ℕ → Type 0
+ShowsOther shown bytes = (w : Contents) × IsWorld bytes (Ok w) × (Shows shown w → ⊥)
+
+-- the base of WORLD is needed: WORLD reads as another world than these edits show; of a host that doesn't tell what it holds nothing is said
+abbrev pub NeedsBase : Option HostContents → List Edit → List ℕ → Type 0
+NeedsBase None shown world = ⊤
+NeedsBase (Some t) shown world = (bytes : List ℕ) × (file_in t world ≡ Some bytes) × ShowsOther shown bytes
+
+-- what is read of a world file's base: nothing, or the base where that is needed
+abbrev pub MayReadBase : Type 0 → List ℕ → List ℕ → List Call → Type 0
+MayReadBase needed file base calls = (calls ≡ []) ⊎ (needed × BaseReads Optional base file calls)
 
 -- what is read of WORLD and its base: nothing where that is forced; else WORLD, which may be missing, and where it is there perhaps the base
-abbrev pub LookReads : Forcing → List ℕ → List ℕ → List ℕ → List Call → Type 0
-LookReads Forced file base world reads = reads ≡ []
-LookReads Careful file base world reads =
+abbrev pub LookReads : Type 0 → Forcing → List ℕ → List ℕ → List ℕ → List Call → Type 0
+LookReads needed Forced file base world reads = reads ≡ []
+LookReads needed Careful file base world reads =
     (reads ≡ call (Reading world) true ∷ [])
-    ⊎ ((middle : List Call) × MayReadBase file base middle × (reads ≡ call (Reading world) false ∷ middle))
+    ⊎ ((middle : List Call) × MayReadBase needed file base middle × (reads ≡ call (Reading world) false ∷ middle))
 
 -- FILE is read, and then those
 abbrev pub OpenReads : Forcing → List ℕ → List ℕ → List Call → Type 0
 OpenReads forcing file world reads =
-    (more : List Call) × LookReads forcing file (beside world) world more × (reads ≡ call (Reading file) false ∷ more)
+    (more : List Call) × LookReads ⊤ forcing file (beside world) world more × (reads ≡ call (Reading file) false ∷ more)
+
+-- what is read at most where these edits are to be written: WORLD only if they can be exported, and its base only if that is needed
+abbrev pub ShownReads : Option HostContents → Forcing → List Edit → List ℕ → List ℕ → List Call → Type 0
+ShownReads held forcing shown file world reads =
+    (reads ≡ [])
+    ⊎ ((text : List ℕ) × IsExported shown (Ok text) × LookReads (NeedsBase held shown world) forcing file (beside world) world reads)
+
+-- what is read at most of a host that holds this: FILE; and if it has edits, what is needed for those up to the time
+abbrev pub NeededReads : HostContents → Option ℕ → Forcing → List ℕ → List ℕ → List Call → Type 0
+NeededReads t until forcing file world reads =
+    (more : List Call) × (reads ≡ call (Reading file) false ∷ more)
+    × ((more ≡ []) ⊎ ((f : FileEdits) × OpensAs ⊥ t None file (Ok f) × ShownReads (Some t) forcing (up_to until f.1) file world more))
 
 -- WORLD is written, and then the base beside it
 abbrev pub OpenWrites : List ℕ → List (List ℕ) → Type 0

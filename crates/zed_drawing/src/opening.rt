@@ -1,5 +1,5 @@
 //! A world file that is written for another editor, with the base beside it.
-ghost use Rattle.std.specs.Prelude.{◌≡◌, ◌∷◌, ◌++◌, [], if◌then◌else◌, nat_le, List, IfErr, IfOk, OnOk, MatchBool, Some, IfSome, false, option_map};
+ghost use Rattle.std.specs.Prelude.{◌≡◌, ◌∷◌, ◌++◌, [], if◌then◌else◌, nat_le, List, IfErr, IfOk, OnOk, MatchBool, Some, IfSome, false, option_map, ⊤};
 ghost use Rattle.zed_op.specs.declared.op.Edit.{Edit as TheEdit};
 ghost use Rattle.zed_edit.specs.Replay.{replay};
 ghost use Rattle.zed_export.specs.Limits.{exported as shown};
@@ -7,7 +7,7 @@ ghost use Rattle.zed_take.specs.Taken.{Shows};
 ghost use Rattle.zed_drawing.specs.Asked.{Asks, Did, Reads, TellsFailures};
 ghost use Rattle.zed_drawing.specs.Base.{BaseReads, beside as base_beside, edits_of_base};
 ghost use Rattle.zed_drawing.specs.Effects.{Ends, names_of};
-ghost use Rattle.zed_drawing.specs.Opening.{ComesToOpen, IsExported, IsFree, IsOfBase, IsSame, IsSaved, IsUndrawn, LookReads, MayReadBase, MayReplace, OpenReads, OpenWrites, Replaces, Shown, opened_as, up_to};
+ghost use Rattle.zed_drawing.specs.Opening.{ComesToOpen, IsExported, IsFree, IsOfBase, IsSame, IsSaved, IsUndrawn, LookReads, MayReadBase, MayReplace, NeededReads, NeedsBase, OpenReads, OpenWrites, Replaces, Shown, ShownReads, ShowsOther, opened_as, up_to};
 ghost use Rattle.zed_drawing.specs.Refusals.{memory};
 ghost use Rattle.zed_drawing.specs.Steps.{Gives};
 ghost use Rattle.zed_host.specs.Counting.{Rose};
@@ -200,7 +200,9 @@ fn check_undrawn<H: Host>(
         Gives (λ u. u) (IsUndrawn failed t (document.now.world, document.now.edits) es
         file.now base.now world.now) result }
     ensures kept { H.contents host.new ≡ H.contents host.old }
-    ensures asked { Reads H.called (MayReadBase file.now base.now) result host.old host.new }
+    ensures asked { (es : List TheEdit) → IsSaved es text.now
+        → Reads H.called (MayReadBase (Shows es world.now → ⊥) file.now base.now)
+        result host.old host.new }
     ensures failures { TellsFailures H.faults H.failed result host.old host.new }
 {
     let is_shown = is_of(alloc, world, text)?;
@@ -227,7 +229,9 @@ fn check_bytes<H: Host>(
         Gives (λ u. u) (IsFree failed t (document.now.world, document.now.edits) es
         file.now base.now (Some bytes.now)) result }
     ensures kept { H.contents host.new ≡ H.contents host.old }
-    ensures asked { Reads H.called (MayReadBase file.now base.now) result host.old host.new }
+    ensures asked { (es : List TheEdit) → IsSaved es text.now
+        → Reads H.called (MayReadBase (ShowsOther es bytes.now) file.now base.now)
+        result host.old host.new }
     ensures failures { TellsFailures H.faults H.failed result host.old host.new }
 {
     let world = read_world(alloc, bytes)?;
@@ -251,8 +255,9 @@ fn check_free<H: Host>(
         Gives (λ u. u) (MayReplace failed t Forcing.Careful
         (document.now.world, document.now.edits) es file.now base.now name.now) result }
     ensures kept { H.contents host.new ≡ H.contents host.old }
-    ensures asked { Reads H.called (LookReads Forcing.Careful file.now base.now name.now)
-        result host.old host.new }
+    ensures asked { (es : List TheEdit) → IsSaved es text.now
+        → Reads H.called (LookReads (NeedsBase (H.contents host.old) es name.now)
+        Forcing.Careful file.now base.now name.now) result host.old host.new }
     ensures failures { TellsFailures H.faults H.failed result host.old host.new }
 {
     let read = try_file(host, name)?;
@@ -280,8 +285,9 @@ fn check_forced<H: Host>(
         Gives (λ u. u) (MayReplace failed t forcing
         (document.now.world, document.now.edits) es file.now base.now name.now) result }
     ensures kept { H.contents host.new ≡ H.contents host.old }
-    ensures asked { Reads H.called (LookReads forcing file.now base.now name.now)
-        result host.old host.new }
+    ensures asked { (es : List TheEdit) → IsSaved es text.now
+        → Reads H.called (LookReads (NeedsBase (H.contents host.old) es name.now)
+        forcing file.now base.now name.now) result host.old host.new }
     ensures failures { TellsFailures H.faults H.failed result host.old host.new }
 {
     match forcing {
@@ -328,8 +334,9 @@ fn write_over<H: Host>(
         (document.now.world, document.now.edits) es file.now world.now text.items) result }
     ensures writes { IfOk result (λ x. OpenWrites world.now (names_of x.files)) }
     ensures kept { H.contents host.new ≡ H.contents host.old }
-    ensures asked { Reads H.called (LookReads forcing file.now (base_beside world.now) world.now)
-        result host.old host.new }
+    ensures asked { (es : List TheEdit) → IsSaved es text.items
+        → Reads H.called (LookReads (NeedsBase (H.contents host.old) es world.now)
+        forcing file.now (base_beside world.now) world.now) result host.old host.new }
     ensures failures { TellsFailures H.faults H.failed result host.old host.new }
 {
     let base = beside_of(alloc, world)?;
@@ -363,8 +370,11 @@ fn open_document<H: Host>(
         (document.now.world, document.now.edits) file.now world.now) result }
     ensures writes { IfOk result (λ x. OpenWrites world.now (names_of x.files)) }
     ensures kept { H.contents host.new ≡ H.contents host.old }
-    ensures asked { Reads H.called (LookReads forcing file.now (base_beside world.now) world.now)
+    ensures asked { Reads H.called
+        (LookReads ⊤ forcing file.now (base_beside world.now) world.now)
         result host.old host.new }
+    ensures spares { Reads H.called (ShownReads (H.contents host.old) forcing
+        (up_to until document.now.edits) file.now world.now) result host.old host.new }
     ensures failures { TellsFailures H.faults H.failed result host.old host.new }
 {
     let text = exported(alloc, document, until)?;
@@ -387,6 +397,9 @@ fn open_to<H: Host>(
     ensures kept { H.contents host.new ≡ H.contents host.old }
     ensures asked { Reads H.called (OpenReads forcing file.now world.now)
         result host.old host.new }
+    ensures spares { (t : HostContents) → H.contents host.old ≡ Some t
+        → Reads H.called (NeededReads t until forcing file.now world.now)
+        result host.old host.new }
     ensures failures { TellsFailures H.faults H.failed result host.old host.new }
 {
     let document = open_file(alloc, host, None, file)?;
@@ -408,6 +421,9 @@ pub fn open<H: Host>(
         (Did H.called (OpenReads forcing file.now world.now) host.old host.new) t
         result (H.contents host.new) }
     ensures asked { Asks H.called (OpenReads forcing file.now world.now) (OpenWrites world.now)
+        result host.old host.new }
+    ensures spares { (t : HostContents) → H.contents host.old ≡ Some t
+        → Asks H.called (NeededReads t until forcing file.now world.now) (OpenWrites world.now)
         result host.old host.new }
     ensures failures { TellsFailures H.faults H.failed result host.old host.new }
 {

@@ -4,7 +4,7 @@ use Rattle.zed_host.proofs.Counts.{counted_up}
 use Rattle.zed_drawing.specs.Asked.{Did}
 use Rattle.zed_drawing.specs.Base.{beside}
 use Rattle.zed_drawing.specs.Effects.{names_of}
-use Rattle.zed_drawing.specs.Opening.{ComesToOpen, OpenReads}
+use Rattle.zed_drawing.specs.Opening.{ComesToOpen, NeededReads, OpenReads}
 use Rattle.zed_drawing.proofs.Asking.{did_ok, did_or_stopped, halted_stopped, tells_ended}
 use Rattle.zed_drawing.proofs.Ending.{effect_ends, refused_ends}
 use Rattle.zed_drawing.proofs.So.{open_so}
@@ -55,3 +55,20 @@ pub returns-clause-failures : goal.returns-clause-failures
 returns-clause-failures g c =
     let before = c.in_ok-effect.ensures.failures in
     tells_ended g.H.Host.faults g.H.Host.failed c.carry_out.result _ _ _ (before.0, before.1) c.carry_out.ensures.faults c.carry_out.ensures.failures
+
+pub returns-in_err-effect-clause-spares : goal.returns-in_err-effect-clause-spares
+returns-in_err-effect-clause-spares g c = λ t at.
+    let p = err_from_is_err_and c.from_residual.result c.from_residual.ensures.1 in
+    let same : p.0 ≡ c.in_err-effect.field-0.0 = p.2 in
+    let names = c.args.world.now ∷ beside c.args.world.now ∷ [] in
+    let reads = NeededReads t c.args.until c.args.forcing c.args.file.now c.args.world.now in
+    rw (p.1, same) (names, refl, halted_stopped g.H.Host.called reads names c.in_err-effect.field-0.0 _ _ (c.in_err-effect.ensures.spares t at))
+
+pub returns-clause-spares : goal.returns-clause-spares
+returns-clause-spares g c = λ t at.
+    let x = c.in_ok-effect.effect in (
+      names_of x.files,
+      c.in_ok-effect.ensures.writes,
+      did_or_stopped g.H.Host.called (NeededReads t c.args.until c.args.forcing c.args.file.now c.args.world.now) (names_of x.files) c.carry_out.result _ _ _
+          (c.in_ok-effect.ensures.spares t at) c.carry_out.ensures.asked c.carry_out.ensures.err,
+    )

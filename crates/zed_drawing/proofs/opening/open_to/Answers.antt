@@ -1,11 +1,12 @@
-use Rattle.std.proofs.Common.{◌≡◌, ◌∙◌, [], ◌∷◌, false, None}
+use Rattle.std.proofs.Common.{◌≡◌, ◌∙◌, [], ◌∷◌, false, None, Some}
+use Rattle.std.specs.Prelude.{⊤}
 use Rattle.std.proofs.lemmas.Result.{err_from_is_err_and}
 use Rattle.zed_host.specs.Calls.{Reading, call}
 use Rattle.zed_drawing.specs.Base.{beside}
 use Rattle.zed_drawing.specs.Files.{OpensAs}
-use Rattle.zed_drawing.specs.Opening.{LookReads, OpenReads, Shown}
+use Rattle.zed_drawing.specs.Opening.{LookReads, NeededReads, OpenReads, Shown, ShownReads, up_to}
 use Rattle.zed_drawing.proofs.Asking.{halted_before, reads_then, tells_later}
-use Rattle.zed_drawing.proofs.Looking.{open_behind_file, open_join, open_then}
+use Rattle.zed_drawing.proofs.Looking.{needed_behind_file, needed_join, open_behind_file, open_join, open_then, opens_surely}
 use Rattle.zed_drawing.proofs.Steps.{step_refused}
 use Rattle.zed_drawing.proofs.opening.open_to.Goals as goal
 
@@ -36,7 +37,7 @@ returns-clause-comes g c = λ t at.
 
 pub returns-clause-asked : goal.returns-clause-asked
 returns-clause-asked g c =
-    reads_then g.H.Host.called (λ a. a ≡ call (Reading c.args.file.now) false ∷ []) (LookReads c.args.forcing c.args.file.now (beside c.args.world.now) c.args.world.now)
+    reads_then g.H.Host.called (λ a. a ≡ call (Reading c.args.file.now) false ∷ []) (LookReads ⊤ c.args.forcing c.args.file.now (beside c.args.world.now) c.args.world.now)
     (OpenReads c.args.forcing c.args.file.now c.args.world.now) c.open_document.result _ _ _ (open_join c.args.forcing c.args.file.now c.args.world.now)
     c.in_ok-document.ensures.asked c.open_document.ensures.asked
 
@@ -44,3 +45,19 @@ pub returns-clause-failures : goal.returns-clause-failures
 returns-clause-failures g c =
     let told = c.in_ok-document.ensures.failures in
     tells_later g.H.Host.faults g.H.Host.failed c.open_document.result _ _ _ (told.0, told.1) c.open_document.ensures.failures
+
+pub returns-in_err-document-clause-spares : goal.returns-in_err-document-clause-spares
+returns-in_err-document-clause-spares g c = λ t at.
+    let p = err_from_is_err_and c.from_residual.result c.from_residual.ensures.1 in
+    let same : p.0 ≡ c.in_err-document.field-0.0 = p.2 in
+    rw (p.1, same) (halted_before g.H.Host.called (λ a. a ≡ call (Reading c.args.file.now) false ∷ []) (NeededReads t c.args.until c.args.forcing c.args.file.now c.args.world.now)
+    c.in_err-document.field-0.0 _ _ (needed_behind_file t c.args.until c.args.forcing c.args.file.now c.args.world.now) c.in_err-document.ensures.asked)
+
+pub returns-clause-spares : goal.returns-clause-spares
+returns-clause-spares g c = λ t at.
+    let d = c.in_ok-document.document in
+    let opens = opens_surely _ t c.args.file.now (d.world, d.edits) (c.in_ok-document.ensures.opened t at) in
+    reads_then g.H.Host.called (λ a. a ≡ call (Reading c.args.file.now) false ∷ []) (ShownReads (Some t) c.args.forcing (up_to c.args.until d.edits) c.args.file.now c.args.world.now)
+    (NeededReads t c.args.until c.args.forcing c.args.file.now c.args.world.now) c.open_document.result _ _ _
+    (λ a b. needed_join t c.args.until c.args.forcing c.args.file.now c.args.world.now (d.world, d.edits) a b opens)
+    c.in_ok-document.ensures.asked (rw (c.in_ok-document.ensures.kept ∙ at) at c.open_document.ensures.spares)
