@@ -5,13 +5,15 @@ use Rattle.zed_export.specs.declared.error.ExportError.{ExportError}
 use Rattle.zed_world.specs.declared.error.WorldError.{WorldError}
 use Rattle.zed_drawing.specs.declared.error.DrawingError.{DrawingError}
 use Rattle.zed_drawing.specs.declared.error.DrawingError.TheVariants.{Refused, NotTaken}
-use Rattle.std.proofs.Common.{◌≡◌, ◌∙◌, ℕ, List, Option, Some, None, Result, Ok, Err, ap, refl, subst, sym, inl, inr}
+use Rattle.std.specs.Global.{Vec}
+use Rattle.std.proofs.Common.{◌≡◌, ◌∙◌, ℕ, false, List, Option, Some, None, Result, Ok, Err, ap, refl, subst, sym, inl, inr}
 use Rattle.std.specs.Prelude.{◌⊎◌}
 use Rattle.zed_world.specs.Contents.{Contents}
 use Rattle.zed_world.specs.declared.error.WorldError.TheVariants as worlds
 use Rattle.zed_world.specs.Writing.{HasText, unless_refused, world_text, written}
 use Rattle.zed_edit.specs.Replay.{replay}
-use Rattle.zed_export.specs.Limits.{exported, refusal_of, saved, unless_over}
+use Rattle.zed_document.specs.Replica.{Replica}
+use Rattle.zed_export.specs.Limits.{Answers, exported, refusal_of, saved, unless_over, unless_stale}
 use Rattle.zed_export.specs.World.{exported_boards, world_of}
 use Rattle.zed_export.proofs.Within.{boards_within, none_over}
 use Rattle.zed_files.specs.Refusals.{export_refusal}
@@ -77,12 +79,40 @@ unsaved_gives es w e why = elim why [ inl lack ↦ inl lack | inr is ↦ inr (un
 abbrev as_text : List ℕ → Result (List ℕ) WorldError
 as_text bytes = Ok bytes
 
--- a world with a board that is too large has no text
-pub over_has_none : (w : Contents) (e : WorldError) (b n : ℕ) → e ≡ worlds.BoardOver b n → (e ≡ worlds.Memory) ⊎ (written 32767 w ≡ Err e)
+-- a world that is refused for another reason than want of memory has no text
+pub over_has_none : (w : Contents) (e : WorldError) → (e ≡ worlds.Memory → ⊥) → (e ≡ worlds.Memory) ⊎ (written 32767 w ≡ Err e)
     → HasText 32767 w
     → ⊥
 unfolding written
-over_has_none w e b n is why none = elim why [
-  | inl lack ↦ (let no : worlds.BoardOver b n ≡ worlds.Memory = sym is ∙ lack in cc)
+over_has_none w e other why none = elim why [
+  | inl lack ↦ other lack
   | inr over ↦ (let no : as_text (world_text w) ≡ Err e = sym (ap (λ o. unless_refused o (world_text w)) none) ∙ over in cc)
 ]
+
+-- ---- limits that are told for sure
+
+-- what is saved, by its bytes
+abbrev pub Saves : Result (List ℕ) ExportError → Result (Vec ℕ) ExportError → Type 0
+Saves s r = Answers {X = Vec ℕ} (λ file. file.items) s r
+
+limit_is : (s : Result (List ℕ) ExportError) (x : ExportError) (e : DrawingError) → Err e ≡ export_told s → Saves s (Err x)
+    → Refused (export_refusal x) ≡ e
+limit_is (Ok y) x e nothing is = absurd (cc)
+limit_is (Err z) x e why is =
+    let same : x ≡ z = cc in let told : e ≡ Refused (export_refusal z) = cc in ap (λ v. Refused (export_refusal v)) same ∙ sym told
+
+limit_isnt : (s : Result (List ℕ) ExportError) (file : Vec ℕ) (e : DrawingError) → Err e ≡ export_told s → Saves s (Ok file) → ⊥
+limit_isnt (Ok y) file e nothing is = cc
+limit_isnt (Err z) file e why is = cc
+
+-- the first limit refuses the save
+pub limit_told : (d : Replica) (x : ExportError) (e : DrawingError) → d.is_stale ≡ false → IsExported d.edits (Err e)
+    → Saves (unless_stale d (saved 32767)) (Err x)
+    → Refused (export_refusal x) ≡ e
+limit_told d x e sound why is = limit_is (saved 32767 (replay d.edits)) x e why (rw sound at is)
+
+-- and without one it isn't refused so
+pub limit_none : (d : Replica) (file : Vec ℕ) (e : DrawingError) → d.is_stale ≡ false → IsExported d.edits (Err e)
+    → Saves (unless_stale d (saved 32767)) (Ok file)
+    → ⊥
+limit_none d file e sound why is = limit_isnt (saved 32767 (replay d.edits)) file e why (rw sound at is)

@@ -7,7 +7,7 @@ use Rattle.zed_files.specs.declared.refusal.Refusal.TheVariants as refusal
 use Rattle.zed_drawing.specs.declared.error.DrawingError.{DrawingError}
 use Rattle.zed_drawing.specs.declared.error.DrawingError.TheVariants.{Refused}
 use Rattle.std.proofs.Common.{◌≡◌, ◌∙◌, ℕ, Bool, true, false, cond, eqb, List, [], ◌∷◌, ◌++◌, Option, Some, None, Result, Ok, Err, ap, length, refl, subst, sym, inl, inr}
-use Rattle.std.specs.Prelude.{◌⊎◌, IfErr, IfOk, IfSome, MatchBool, ⊤}
+use Rattle.std.specs.Prelude.{◌⊎◌, IfErr, IfOk, IfSome, MatchBool}
 use Rattle.std.specs.Str.{bytes_eq}
 use Rattle.std.proofs.lemmas.Bool.{eq-eqb}
 use Rattle.zed_world.specs.Contents.{Contents}

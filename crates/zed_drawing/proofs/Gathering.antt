@@ -11,7 +11,7 @@ use Rattle.std.specs.Str.{bytes_eq}
 use Rattle.std.proofs.lemmas.Bool.{eq-eqb, eqb-true}
 use Rattle.zed_world.specs.Contents.{Contents}
 use Rattle.zed_document.specs.Replica.{Replica}
-use Rattle.zed_host.specs.Calls.{Call, Leads, Reading, call}
+use Rattle.zed_host.specs.Calls.{Call, Reading, call}
 use Rattle.zed_host.specs.Counting.{Rose}
 use Rattle.zed_host.specs.HostContents.{HostContents}
 use Rattle.zed_host.proofs.Counts.{rose_before, rose_later}
@@ -22,7 +22,6 @@ use Rattle.zed_drawing.specs.Files.{IsOpened, IsWorld, OpensAs, ReadsAs}
 use Rattle.zed_drawing.specs.Refusals.{file, memory}
 use Rattle.zed_drawing.specs.Steps.{Gives, Steps}
 use Rattle.zed_drawing.specs.Taking.{Draws, Gathers, Given, TakeReads, TakesFrom, given}
-use Rattle.zed_drawing.proofs.Asking.{Done, Halted}
 use Rattle.zed_drawing.proofs.Beside.{some_reads}
 use Rattle.zed_drawing.proofs.So.{finds_so, name_so}
 

@@ -6,6 +6,7 @@ pub mod Drawing
 pub mod Earlier
 pub mod Ending
 pub mod Gathering
+pub mod Lacking
 pub mod Looking
 pub mod Opened
 pub mod Others

@@ -17,7 +17,7 @@ use Rattle.zed_drawing.specs.Effects.{Effect, names_of}
 use Rattle.zed_files.specs.Opened.{FileEdits}
 use Rattle.zed_drawing.specs.Files.{IsOpened, IsTried, OfFile, OpensAs}
 use Rattle.zed_drawing.specs.Opening.{ComesToOpen, IsFree, IsOfBase, IsUndrawn, LookReads, MayReadBase, MayReplace, NeededReads, NeedsBase, OpenReads, OpenWrites, Replaces, Shown, ShownReads, ShowsOther, opened_as, up_to}
-use Rattle.zed_drawing.specs.Refusals.{file, memory}
+use Rattle.zed_drawing.specs.Refusals.{file as no_file, memory}
 use Rattle.zed_drawing.specs.Steps.{Gives}
 use Rattle.zed_drawing.proofs.Asking.{Done, NoneLost, done_refused}
 use Rattle.zed_drawing.proofs.Others.{memory_other}
@@ -118,7 +118,7 @@ pub tried_there : (failed : Type 0) (t : HostContents) (name bytes : List ℕ) �
     → file_in t name ≡ Some bytes
 tried_there failed t name bytes is = elim is [
   | inl held ↦ (let same : tried_as (Some bytes) ≡ tried_as (file_in t name) = held in cc)
-  | inr lost ↦ absurd (let no : tried_as (Some bytes) ≡ Err file = lost.1 in cc)
+  | inr lost ↦ absurd (let no : tried_as (Some bytes) ≡ Err no_file = lost.1 in cc)
 ]
 
 -- a world file that was read needs its base where its bytes do
@@ -134,7 +134,7 @@ pub opens_surely : (failed : Type 0) (t : HostContents) (name : List ℕ) (f : F
 opens_surely failed t name f is = go is.0 is.1 is.2
   where
     go : (read : Option (List ℕ)) → IsRead failed t name read → OfFile (IsOpened None) read (Ok f) → OpensAs ⊥ t None name (Ok f)
-    go None read made = absurd (let no : Ok f ≡ Err file = made in cc)
+    go None read made = absurd (let no : Ok f ≡ Err no_file = made in cc)
     go (Some bytes) read made = elim read [
       | inl held ↦ (Some bytes, inl held, made)
       | inr lost ↦ absurd (let no : Some bytes ≡ None = lost.1 in cc)

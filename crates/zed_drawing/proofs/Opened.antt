@@ -5,7 +5,7 @@ use Rattle.zed_drawing.specs.declared.error.DrawingError.{DrawingError}
 use Rattle.zed_drawing.specs.declared.error.DrawingError.TheVariants.{Refused}
 use Rattle.zed_files.specs.declared.refusal.Refusal.{Refusal}
 use Rattle.zed_files.specs.declared.refusal.Refusal.TheVariants as refusal
-use Rattle.std.proofs.Common.{◌≡◌, ◌∙◌, ℕ, List, Option, Some, None, Result, Ok, Err, ap, refl, sym, inl, inr}
+use Rattle.std.proofs.Common.{◌≡◌, ℕ, List, Option, Some, None, Result, Ok, Err, ap, refl, sym, inl, inr}
 use Rattle.std.specs.Prelude.{◌⊎◌}
 use Rattle.zed_host.specs.HostContents.{HostContents, IsRead, file_in}
 use Rattle.zed_world.specs.Contents.{Contents}

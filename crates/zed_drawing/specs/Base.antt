@@ -3,10 +3,10 @@ use Rattle.zed_op.specs.declared.op.Edit.{Edit}
 use Rattle.zed_drawing.specs.declared.base.Presence.{Presence}
 use Rattle.zed_drawing.specs.declared.base.Presence.TheVariants.{Needed, Optional}
 use Rattle.zed_drawing.specs.declared.error.DrawingError.{DrawingError}
-use Rattle.std.specs.Prelude.{◌≡◌, ℕ, Bool, false, List, [], ◌∷◌, ◌++◌, codes, Option, Some, None, Result, Ok, MatchBool}
+use Rattle.std.specs.Prelude.{◌≡◌, ℕ, Bool, false, true, is_some, List, [], ◌∷◌, ◌++◌, codes, Option, Some, None, Result, Ok, MatchBool}
 use Rattle.std.specs.Str.{bytes_eq}
 use Rattle.zed_host.specs.Calls.{Call, Reading, call}
-use Rattle.zed_host.specs.HostContents.{HostContents}
+use Rattle.zed_host.specs.HostContents.{HostContents, file_in}
 use Rattle.zed_files.specs.Opened.{FileEdits}
 use Rattle.zed_drawing.specs.Files.{IsOpened, IsTried, OpensAs}
 use Rattle.zed_drawing.specs.Steps.{Steps}
@@ -57,3 +57,7 @@ AsksBase Optional base calls = (missing : Bool) × (calls ≡ call (Reading base
 -- what is read for the base of FILE: nothing where FILE is the word
 abbrev pub BaseReads : Presence → List ℕ → List ℕ → List Call → Type 0
 BaseReads presence base file calls = MatchBool (bytes_eq base file) (calls ≡ []) (AsksBase presence base calls)
+
+-- memory may be wanted for a base of FILE: it is another file, and is there
+abbrev pub MayWantMemory : HostContents → List ℕ → List ℕ → Type 0
+MayWantMemory t base file = (bytes_eq base file ≡ false) × (is_some (file_in t base) ≡ true)

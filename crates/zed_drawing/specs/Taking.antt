@@ -8,7 +8,7 @@ use Rattle.zed_drawing.specs.declared.base.Presence.{Presence}
 use Rattle.zed_drawing.specs.declared.taking.Gathered.{Gathered}
 use Rattle.zed_drawing.specs.declared.error.DrawingError.{DrawingError}
 use Rattle.zed_drawing.specs.declared.error.DrawingError.TheVariants.{Refused}
-use Rattle.std.specs.Prelude.{◌≡◌, ◌⊎◌, ◌==◌, ℕ, false, List, [], ◌∷◌, ◌++◌, codes, length, if◌then◌else◌, Option, Some, None, Result, Ok, Err, MatchBool, IfSome, option_map}
+use Rattle.std.specs.Prelude.{◌≡◌, ◌≢◌, ◌⊎◌, ◌==◌, ℕ, false, true, is_some, List, [], ◌∷◌, ◌++◌, codes, length, if◌then◌else◌, Option, Some, None, Result, Ok, Err, MatchBool, IfSome, option_map}
 use Rattle.std.specs.Fmt.{decimal}
 use Rattle.std.specs.Str.{bytes_eq}
 use Rattle.zed_world.specs.Contents.{Contents}
@@ -19,7 +19,7 @@ use Rattle.zed_editfile.specs.Spelling.{file_text}
 use Rattle.zed_take.specs.Refusals.{CanBegin, IsLate, IsRefused}
 use Rattle.zed_take.specs.Taken.{AreTaken, next_stamp}
 use Rattle.zed_host.specs.Calls.{Call, Reading, call}
-use Rattle.zed_host.specs.HostContents.{HostContents}
+use Rattle.zed_host.specs.HostContents.{HostContents, file_in}
 use Rattle.zed_files.specs.Lines.{edits_line}
 use Rattle.zed_drawing.specs.Base.{BaseReads, FindsBase, base_word, edits_of_base, presence_of}
 use Rattle.zed_drawing.specs.Effects.{Effect, Output, output}
@@ -127,3 +127,8 @@ abbrev pub TakeWrites : List ℕ → List ℕ → List (List ℕ) → Type 0
 TakeWrites base file names =
     (names ≡ []) ⊎ (names ≡ file ∷ [])
     ⊎ ((bytes_eq base file ≡ false) × ((names ≡ base ∷ []) ⊎ (names ≡ base ∷ file ∷ [])))
+
+-- memory may be wanted of an author: where the base is named, only if FILE is there; where it isn't, its name wants some first
+abbrev pub MayWantMemory : HostContents → Option (List ℕ) → ℕ → List ℕ → Type 0
+MayWantMemory t None replica file = replica ≢ 0
+MayWantMemory t (Some base) replica file = (replica ≢ 0) × (is_some (file_in t file) ≡ true)

@@ -1,11 +1,12 @@
 //! The base of a world file: the edits that it was exported from.
-ghost use Rattle.std.specs.Prelude.{◌≡◌, IfOk, IfSome, MatchBool, Some, false, option_map};
+ghost use Rattle.std.specs.Prelude.{◌≡◌, IfErr, IfOk, IfSome, MatchBool, Some, false, true, is_some, option_map};
 ghost use Rattle.std.specs.Str.{bytes_eq};
 ghost use Rattle.zed_drawing.specs.Asked.{Reads, TellsFailures};
-ghost use Rattle.zed_drawing.specs.Base.{AsksBase, BaseReads, FindsBase, OfBase, ReadsBase};
+ghost use Rattle.zed_drawing.specs.Base.{AsksBase, BaseReads, FindsBase, MayWantMemory, OfBase, ReadsBase};
+ghost use Rattle.zed_drawing.specs.Refusals.{memory};
 ghost use Rattle.zed_drawing.specs.Steps.{Gives};
 ghost use Rattle.zed_host.specs.Counting.{Rose};
-ghost use Rattle.zed_host.specs.HostContents.{HostContents};
+ghost use Rattle.zed_host.specs.HostContents.{HostContents, file_in};
 
 use crate::error::DrawingError;
 use crate::reading::{open_file, opened, try_file};
@@ -44,6 +45,8 @@ fn try_base<H: Host>(
         (ReadsBase failed t Presence.Optional base.now number) result }
     ensures world { IfOk result (λ b. IfSome b (λ d. d.world ≡ number)) }
     ensures sound { IfOk result (λ b. IfSome b (λ d. d.is_stale ≡ false)) }
+    ensures memory_only_when { (t : HostContents) → H.contents host.old ≡ Some t
+        → IfErr result (λ e. e ≡ memory → is_some (file_in t base.now) ≡ true) }
     ensures kept { H.contents host.new ≡ H.contents host.old }
     ensures asked { Reads H.called (AsksBase Presence.Optional base.now)
         result host.old host.new }
@@ -69,6 +72,8 @@ fn held_base<H: Host>(
         (ReadsBase failed t Presence.Needed base.now number) result }
     ensures world { IfOk result (λ b. IfSome b (λ d. d.world ≡ number)) }
     ensures sound { IfOk result (λ b. IfSome b (λ d. d.is_stale ≡ false)) }
+    ensures memory_only_when { (t : HostContents) → H.contents host.old ≡ Some t
+        → IfErr result (λ e. e ≡ memory → is_some (file_in t base.now) ≡ true) }
     ensures kept { H.contents host.new ≡ H.contents host.old }
     ensures asked { Reads H.called (AsksBase Presence.Needed base.now) result host.old host.new }
     ensures failures { TellsFailures H.faults H.failed result host.old host.new }
@@ -90,6 +95,8 @@ fn read_base<H: Host>(
         Gives (option_map (λ d. d.edits)) (ReadsBase failed t presence base.now number) result }
     ensures world { IfOk result (λ b. IfSome b (λ d. d.world ≡ number)) }
     ensures sound { IfOk result (λ b. IfSome b (λ d. d.is_stale ≡ false)) }
+    ensures memory_only_when { (t : HostContents) → H.contents host.old ≡ Some t
+        → IfErr result (λ e. e ≡ memory → is_some (file_in t base.now) ≡ true) }
     ensures kept { H.contents host.new ≡ H.contents host.old }
     ensures asked { Reads H.called (AsksBase presence base.now) result host.old host.new }
     ensures failures { TellsFailures H.faults H.failed result host.old host.new }
@@ -102,7 +109,7 @@ fn read_base<H: Host>(
 
 /// The document of the base of a file of this world. None if the file is its own base: if it has
 /// the name of the base, which isn't read then, or if the base may be missing and is. Refusals:
-/// File if it can't be read; those of reading it, including OtherWorld; Memory.
+/// File if it can't be read; those of reading it, including OtherWorld; Memory, only if it is read.
 pub(crate) fn find_base<H: Host>(
     alloc: Global,
     host: &mut H,
@@ -118,6 +125,8 @@ pub(crate) fn find_base<H: Host>(
     ensures world { IfOk result (λ b. IfSome b (λ d. d.world ≡ number)) }
     ensures sound { IfOk result (λ b. IfSome b (λ d. d.is_stale ≡ false)) }
     ensures own { IfOk result (λ b. IfSome b (λ _. bytes_eq base.now file.now ≡ false)) }
+    ensures memory_only_when { (t : HostContents) → H.contents host.old ≡ Some t
+        → IfErr result (λ e. e ≡ memory → MayWantMemory t base.now file.now) }
     ensures kept { H.contents host.new ≡ H.contents host.old }
     ensures asked { Reads H.called (BaseReads presence base.now file.now)
         result host.old host.new }

@@ -1,9 +1,10 @@
 //! A world file that is written for another editor, with the base beside it.
-ghost use Rattle.std.specs.Prelude.{◌≡◌, ◌∷◌, ◌++◌, [], if◌then◌else◌, nat_le, List, IfErr, IfOk, OnOk, MatchBool, Some, IfSome, false, option_map, ⊤};
+ghost use Rattle.std.specs.Prelude.{◌≡◌, ◌∷◌, ◌++◌, [], if◌then◌else◌, nat_le, List, Err, IfErr, IfOk, OnOk, MatchBool, None, Some, IfSome, false, true, is_some, option_map, ⊤};
 ghost use Rattle.zed_op.specs.declared.op.Edit.{Edit as TheEdit};
 ghost use Rattle.zed_edit.specs.Replay.{replay};
 ghost use Rattle.zed_export.specs.Limits.{exported as shown};
 ghost use Rattle.zed_take.specs.Taken.{Shows};
+ghost use Rattle.zed_drawing.specs.declared.error.DrawingError.{DrawingError as TheDrawingError};
 ghost use Rattle.zed_drawing.specs.Asked.{Asks, Did, Reads, TellsFailures};
 ghost use Rattle.zed_drawing.specs.Base.{BaseReads, beside as base_beside, edits_of_base};
 ghost use Rattle.zed_drawing.specs.Effects.{Ends, names_of};
@@ -11,7 +12,8 @@ ghost use Rattle.zed_drawing.specs.Opening.{ComesToOpen, IsExported, IsFree, IsO
 ghost use Rattle.zed_drawing.specs.Refusals.{memory};
 ghost use Rattle.zed_drawing.specs.Steps.{Gives};
 ghost use Rattle.zed_host.specs.Counting.{Rose};
-ghost use Rattle.zed_host.specs.HostContents.{HostContents};
+ghost use Rattle.zed_host.specs.HostContents.{HostContents, file_in};
+ghost use Rattle.zed_world.specs.Writing.{HasText};
 
 use crate::base::{Presence, find_base};
 use crate::effect::{Effect, Output, carry_out};
@@ -87,6 +89,8 @@ fn saved(alloc: Global, document: &Document) -> Result<Vec<u8>, DrawingError>
     requires { document.now.is_stale ≡ false }
     ensures exported { Gives (λ text. text.items) (IsExported document.now.edits) result }
     ensures back { IfOk result (λ text. IsSaved document.now.edits text.items) }
+    ensures limits { (e : TheDrawingError) → IsExported document.now.edits (Err e)
+        → result ≡ Err e }
 {
     Ok(save(alloc, document, READ_BODY_LIMIT)?)
 }
@@ -97,6 +101,8 @@ fn exported(alloc: Global, document: &Document, until: Option<u64>) -> Result<Ve
     ensures exported { Gives (λ text. text.items)
         (IsExported (up_to until document.now.edits)) result }
     ensures back { IfOk result (λ text. IsSaved (up_to until document.now.edits) text.items) }
+    ensures limits { (e : TheDrawingError) → until ≡ None
+        → IsExported document.now.edits (Err e) → result ≡ Err e }
 {
     match until {
         None => saved(alloc, document),
@@ -113,18 +119,24 @@ fn is_of(alloc: Global, world: &World, file: &[u8]) -> Result<bool, DrawingError
     ensures is { (es : List TheEdit) → IsSaved es file.now → IfOk result (λ is.
         MatchBool is (Shows es world.now) (Shows es world.now → ⊥)) }
     ensures err { IfErr result (λ e. e ≡ memory) }
+    ensures memory_only_when { IfErr result (λ e. e ≡ memory → HasText 32767 world.now) }
 {
     match write_world(alloc, world, READ_BODY_LIMIT) {
         Ok(text) => Ok(text.as_slice() == file),
-        Err(WorldError::BoardOver { .. }) => Ok(false),
-        Err(_) => Err(DrawingError::Refused(Refusal::Memory)),
+        Err(error) => match error {
+            WorldError::Memory => Err(DrawingError::Refused(Refusal::Memory)),
+            _ => Ok(false),
+        },
     }
 }
 
 // Refuses a world that isn't the one that a document shows.
 fn check_same(alloc: Global, document: &Document, world: &World) -> Result<(), DrawingError>
     requires { document.now.is_stale ≡ false }
-    ensures { Gives (λ u. u) (IsSame world.now (shown 32767 (replay document.now.edits))) result }
+    ensures same { Gives (λ u. u)
+        (IsSame world.now (shown 32767 (replay document.now.edits))) result }
+    ensures limits { (e : TheDrawingError) → IsExported document.now.edits (Err e)
+        → result ≡ Err e }
 {
     let file = saved(alloc, document)?;
     let is_same = is_of(alloc, world, file.as_slice())?;
@@ -394,6 +406,8 @@ fn open_to<H: Host>(
         → let failed = Rose (H.faults host.old) (H.faults host.new) in
         Gives (λ x. x) (ComesToOpen failed t until forcing file.now world.now) result }
     ensures writes { IfOk result (λ x. OpenWrites world.now (names_of x.files)) }
+    ensures memory_only_when { (t : HostContents) → H.contents host.old ≡ Some t
+        → IfErr result (λ e. e ≡ memory → is_some (file_in t file.now) ≡ true) }
     ensures kept { H.contents host.new ≡ H.contents host.old }
     ensures asked { Reads H.called (OpenReads forcing file.now world.now)
         result host.old host.new }
@@ -406,7 +420,7 @@ fn open_to<H: Host>(
     open_document(alloc, host, until, forcing, &document, file, world)
 }
 
-/// Writes the world of an edit file for another editor.
+/// Writes the world of an edit file for another editor. Memory is asked for only if FILE is there.
 pub fn open<H: Host>(
     alloc: Global,
     host: &mut H,
@@ -420,6 +434,8 @@ pub fn open<H: Host>(
         Ends failed (ComesToOpen failed t until forcing file.now world.now)
         (Did H.called (OpenReads forcing file.now world.now) host.old host.new) t
         result (H.contents host.new) }
+    ensures memory_only_when { (t : HostContents) → H.contents host.old ≡ Some t
+        → IfErr result (λ e. e ≡ memory → is_some (file_in t file.now) ≡ true) }
     ensures asked { Asks H.called (OpenReads forcing file.now world.now) (OpenWrites world.now)
         result host.old host.new }
     ensures spares { (t : HostContents) → H.contents host.old ≡ Some t

@@ -1,12 +1,13 @@
 //! The files that a command reads.
-ghost use Rattle.std.specs.Prelude.{◌≡◌, ◌∷◌, [], ◌⊎◌, ℕ, IfErr, IfOk, MatchResult, Some, None, false, option_map};
+ghost use Rattle.std.specs.Prelude.{◌≡◌, ◌∷◌, [], ◌⊎◌, ℕ, IfErr, IfOk, Some, None, false, true, is_some, option_map};
 ghost use Rattle.zed_drawing.specs.Asked.{Reads, TellsFailures};
 ghost use Rattle.zed_drawing.specs.Files.{IsOpened, IsTried, OpensAs, ReadsAs};
 ghost use Rattle.zed_drawing.specs.Refusals.{is_fault, is_missed, memory};
 ghost use Rattle.zed_drawing.specs.Steps.{Gives};
 ghost use Rattle.zed_host.specs.Calls.{Reading, call};
 ghost use Rattle.zed_host.specs.Counting.{Counts, Rose};
-ghost use Rattle.zed_host.specs.HostContents.{HostContents};
+ghost use Rattle.zed_files.specs.Files.{WantsMemory};
+ghost use Rattle.zed_host.specs.HostContents.{HostContents, file_in};
 
 use crate::error::DrawingError;
 use std::alloc::Global;
@@ -20,6 +21,8 @@ pub(crate) fn try_file<H: Host>(host: &mut H, name: &str) -> Result<Option<Vec<u
     ensures tried { (t : HostContents) → H.contents host.old ≡ Some t
         → let failed = Rose (H.faults host.old) (H.faults host.new) in
         Gives (option_map (λ bytes. bytes.items)) (IsTried failed t name.now) result }
+    ensures memory_only_when { (t : HostContents) → H.contents host.old ≡ Some t
+        → IfErr result (λ e. e ≡ memory → is_some (file_in t name.now) ≡ true) }
     ensures kept { H.contents host.new ≡ H.contents host.old }
     ensures asked { H.called host.old (call (Reading name.now) (is_missed result)) host.new }
     ensures failures { Counts (is_missed result) (H.failed host.old) (H.failed host.new) }
@@ -43,12 +46,13 @@ pub(crate) fn opened(
     ensures opened { Gives (λ d. (d.world, d.edits)) (IsOpened asked bytes.now) result }
     ensures world { IfOk result (λ d. (n : ℕ) → asked ≡ Some n → d.world ≡ n) }
     ensures sound { IfOk result (λ d. d.is_stale ≡ false) }
+    ensures memory_only_when { IfErr result (λ e. e ≡ memory → WantsMemory asked bytes.now) }
 {
     Ok(open_bytes(alloc, asked, bytes)?)
 }
 
 /// The document of the edit file of a name, of the world asked for or of any. Its refusals are
-/// those of the file, and File if it can't be read.
+/// those of the file, and File if it can't be read. Memory, only if the file is there.
 pub fn open_file<H: Host>(
     alloc: Global,
     host: &mut H,
@@ -60,6 +64,8 @@ pub fn open_file<H: Host>(
         Gives (λ d. (d.world, d.edits)) (OpensAs failed t asked name.now) result }
     ensures world { IfOk result (λ d. (n : ℕ) → asked ≡ Some n → d.world ≡ n) }
     ensures sound { IfOk result (λ d. d.is_stale ≡ false) }
+    ensures memory_only_when { (t : HostContents) → H.contents host.old ≡ Some t
+        → IfErr result (λ e. e ≡ memory → is_some (file_in t name.now) ≡ true) }
     ensures kept { H.contents host.new ≡ H.contents host.old }
     ensures asked { Reads H.called (λ reads. reads ≡ call (Reading name.now) false ∷ [])
         result host.old host.new }
@@ -78,6 +84,8 @@ pub(crate) fn world_of<H: Host>(
     ensures read { (t : HostContents) → H.contents host.old ≡ Some t
         → let failed = Rose (H.faults host.old) (H.faults host.new) in
         Gives (λ w. w) (ReadsAs failed t name.now) result }
+    ensures memory_only_when { (t : HostContents) → H.contents host.old ≡ Some t
+        → IfErr result (λ e. e ≡ memory → is_some (file_in t name.now) ≡ true) }
     ensures kept { H.contents host.new ≡ H.contents host.old }
     ensures asked { Reads H.called (λ reads. reads ≡ call (Reading name.now) false ∷ [])
         result host.old host.new }

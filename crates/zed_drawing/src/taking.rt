@@ -1,16 +1,18 @@
 //! What another editor drew in a world file, taken into an edit file.
-ghost use Rattle.std.specs.Prelude.{◌≡◌, ◌≢◌, ◌⊎◌, ◌++◌, ℕ, Err, IfErr, IfOk, List, None, Ok, OnOk, Some, false, length};
+ghost use Rattle.std.specs.Prelude.{◌≡◌, ◌≢◌, ◌⊎◌, ◌++◌, ℕ, Err, IfErr, IfOk, List, None, Ok, OnOk, Some, false, true, is_some, length};
 ghost use Rattle.zed_files.specs.Texts.{text_in};
 ghost use Rattle.zed_drawing.specs.Asked.{Asks, Did, Reads, TellsFailures};
 ghost use Rattle.zed_drawing.specs.Base.{base_word, beside, presence_of};
 ghost use Rattle.zed_drawing.specs.Effects.{Ends, names_of};
-ghost use Rattle.zed_drawing.specs.Refusals.{memory};
+ghost use Rattle.zed_drawing.specs.Refusals.{memory, take_refusal};
 ghost use Rattle.zed_drawing.specs.Steps.{Gives};
-ghost use Rattle.zed_drawing.specs.Taking.{ComesToTake, Draws, Gathers, IsGood, IsJoined, IsTaken, TakeReads, TakeWrites, TakesFrom, given, given_of, grown, taken_line};
+ghost use Rattle.zed_drawing.specs.Taking.{ComesToTake, Draws, Gathers, IsGood, IsJoined, IsTaken, MayWantMemory, TakeReads, TakeWrites, TakesFrom, given, given_of, grown, taken_line};
 ghost use Rattle.zed_op.specs.Set.{AllFit, union};
+ghost use Rattle.zed_take.specs.declared.error.TakeError.{TakeError as TheTakeError};
+ghost use Rattle.zed_take.specs.Refusals.{IsRefused};
 ghost use Rattle.zed_take.specs.Taken.{Joins};
 ghost use Rattle.zed_host.specs.Counting.{Rose};
-ghost use Rattle.zed_host.specs.HostContents.{HostContents};
+ghost use Rattle.zed_host.specs.HostContents.{HostContents, file_in};
 
 use crate::base::{Presence, find_base};
 use crate::effect::{Effect, Output, carry_out};
@@ -47,6 +49,8 @@ fn gather<H: Host>(
         → let failed = Rose (H.faults host.old) (H.faults host.new) in
         Gives given_of (Gathers failed t presence base.now file.now world.now) result }
     ensures good { IfOk result (IsGood base.now file.now) }
+    ensures memory_only_when { (t : HostContents) → H.contents host.old ≡ Some t
+        → IfErr result (λ e. e ≡ memory → is_some (file_in t file.now) ≡ true) }
     ensures kept { H.contents host.new ≡ H.contents host.old }
     ensures asked { Reads H.called (TakeReads presence base.now file.now world.now)
         result host.old host.new }
@@ -117,6 +121,7 @@ fn alone_effect(
 
 /// The effect for a file that is its own base: its document gets edits of a replica that lead to a
 /// world, and the effect writes and prints that. Refused or NotTaken if no edits are taken; Memory.
+/// What refuses a taking before any edit is sought comes before any want of memory.
 #[tactic(none)]
 pub fn draw_alone(
     alloc: Global,
@@ -126,8 +131,10 @@ pub fn draw_alone(
     replica: u16,
 ) -> Result<Effect, DrawingError>
     requires { document.old.is_stale ≡ false }
-    ensures { (base : List ℕ) → Gives (λ x. x) (Draws base file.now replica
+    ensures draws { (base : List ℕ) → Gives (λ x. x) (Draws base file.now replica
         (given (document.old.world, document.old.edits) None world.now)) result }
+    ensures refused { (e : TheTakeError) → IsRefused document.old document.old world.now e
+        → result ≡ Err (take_refusal e) }
 {
     let had = count_of(document);
     let edits = taken_edits(alloc, document, document, world, replica)?;
@@ -218,6 +225,8 @@ fn taken_edits(
     ensures fit { IfOk result (λ edits. AllFit edits.items) }
     ensures base_joins { IfOk result (λ edits. Joins base.now.edits edits.items) }
     ensures file_joins { IfOk result (λ edits. Joins document.now.edits edits.items) }
+    ensures refused { (e : TheTakeError) → IsRefused document.now base.now world.now e
+        → result ≡ Err (take_refusal e) }
 {
     let edits = zed_take::take(alloc, document, base, world, replica)?;
     Ok(edits)
@@ -302,6 +311,8 @@ fn take_to<H: Host>(
         Gives (λ x. x)
         (TakesFrom failed t presence base.now file.now replica world.now) result }
     ensures writes { IfOk result (λ x. TakeWrites base.now file.now (names_of x.files)) }
+    ensures memory_only_when { (t : HostContents) → H.contents host.old ≡ Some t
+        → IfErr result (λ e. e ≡ memory → is_some (file_in t file.now) ≡ true) }
     ensures kept { H.contents host.new ≡ H.contents host.old }
     ensures asked { Reads H.called (TakeReads presence base.now file.now world.now)
         result host.old host.new }
@@ -327,6 +338,8 @@ fn take_from<H: Host>(
         Ends failed (TakesFrom failed t presence base.now file.now replica world.now)
         (Did H.called (TakeReads presence base.now file.now world.now) host.old host.new) t
         result (H.contents host.new) }
+    ensures memory_only_when { (t : HostContents) → H.contents host.old ≡ Some t
+        → IfErr result (λ e. e ≡ memory → is_some (file_in t file.now) ≡ true) }
     ensures asked { Asks H.called (TakeReads presence base.now file.now world.now)
         (TakeWrites base.now file.now) result host.old host.new }
     ensures failures { TellsFailures H.faults H.failed result host.old host.new }
@@ -371,7 +384,8 @@ pub fn check_replica(replica: u16) -> Result<(), DrawingError>
 }
 
 /// Takes what another editor drew in a world file, as the author with this number. 0 is no
-/// author's number: it is refused before memory is asked for, and before any file is read.
+/// author's number: it is refused before memory is asked for, and before any file is read. If the
+/// base is named, memory is asked for only if FILE is there.
 pub fn take<H: Host>(
     alloc: Global,
     host: &mut H,
@@ -389,6 +403,9 @@ pub fn take<H: Host>(
     ensures no_author { replica ≡ 0
         → (result ≡ Err (DrawingError.Refused (Refusal.BadEdit Cause.Stamp)))
         × (host.new ≡ host.old) }
+    ensures memory_only_when { (t : HostContents) → H.contents host.old ≡ Some t
+        → IfErr result (λ e. e ≡ memory
+        → MayWantMemory t (text_in base.entry) replica file.now) }
     ensures asked { let given = text_in base.entry in
         Asks H.called
         (TakeReads (presence_of given) (base_word given world.now) file.now world.now)

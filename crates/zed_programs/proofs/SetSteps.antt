@@ -1,6 +1,6 @@
 -- Setting a program.
-use Rattle.std.proofs.Common.{◌≡◌, ◌∙◌, ◌≢◌, ◌≤◌, ℕ, Bool, true, false, eqb, List, [], ◌∷◌, ◌++◌, Option, Some, None, Result, Ok, Err, ap, refl, subst, sym, inl, inr}
-use Rattle.std.specs.Prelude.{◌⊎◌, IfErr, IfOk, MatchBool, is_some}
+use Rattle.std.proofs.Common.{◌≡◌, ◌∙◌, ◌≢◌, ◌≤◌, ℕ, Bool, true, false, eqb, List, [], ◌∷◌, ◌++◌, Some, None, Result, Ok, Err, ap, refl, subst, sym, inl, inr}
+use Rattle.std.specs.Prelude.{◌⊎◌, IfOk, MatchBool}
 use Rattle.std.specs.Str.{bytes_eq}
 use Rattle.std.proofs.lemmas.Bool.{eq-eqb, eqb-true}
 use Rattle.std.proofs.lemmas.Slice.Eq.{bytes_eq-Decides}
@@ -15,7 +15,7 @@ use Rattle.zed_export.specs.Limits.{Answers, exported, refusal_of, unless_over, 
 use Rattle.zed_export.specs.World.{world_of}
 use Rattle.zed_host.specs.Calls.{Call, Reading, call}
 use Rattle.zed_host.specs.Counting.{Rose}
-use Rattle.zed_host.specs.HostContents.{HostContents, IsRead, file_in}
+use Rattle.zed_host.specs.HostContents.{HostContents}
 use Rattle.zed_host.proofs.Counts.{rose_before, rose_later}
 use Rattle.zed_program_text.specs.declared.error.BadText.{BadText as Place}
 use Rattle.zed_program_text.specs.declared.error.TextError.{TextError}
@@ -34,7 +34,7 @@ use Rattle.zed_drawing.specs.declared.error.DrawingError.{DrawingError}
 use Rattle.zed_drawing.specs.declared.error.DrawingError.TheVariants.{BadText, Refused}
 use Rattle.zed_drawing.specs.Effects.{Effect, names_of}
 use Rattle.zed_files.specs.Opened.{FileEdits}
-use Rattle.zed_drawing.specs.Files.{IsOpened, OfFile, OfName, OpensAs}
+use Rattle.zed_drawing.specs.Files.{IsOpened, OfName, OpensAs}
 use Rattle.zed_drawing.specs.Opening.{export_told}
 use Rattle.zed_drawing.specs.Refusals.{file, memory, text_refusal}
 use Rattle.zed_drawing.specs.Steps.{Gives}
@@ -70,42 +70,7 @@ reprograms_not w board stat program x e why is = elim why [
   | inr refused ↦ inr (Err x, refused, ap (λ y. Err y) is)
 ]
 
--- ---- what memory may be wanted for
-
-pub no_memory : (r : Refusal) → Refused r ≡ memory → r ≡ refusal.Memory
-no_memory r is = cc
-
-pub lacks : {X : Type 0} (p : Type 0) (answer : Result X DrawingError) → p → IfErr answer (λ e. e ≡ memory → p)
-lacks p (Ok x) so = tt
-lacks p (Err e) so = λ _. so
-
-pub lacks_too : {X : Type 0} (p q : Type 0) (answer : Result X DrawingError) → (p → q) → IfErr answer (λ e. e ≡ memory → p)
-    → IfErr answer (λ e. e ≡ memory → q)
-lacks_too p q (Ok x) so is = tt
-lacks_too p q (Err e) so is = λ lack. so (is lack)
-
-pub lacks_none : {X : Type 0} (p : Type 0) (answer : Result X DrawingError) → IfErr answer (λ e. e ≡ file)
-    → IfErr answer (λ e. e ≡ memory → p)
-lacks_none p (Ok x) is = tt
-lacks_none p (Err e) is = λ lack. absurd (let both : file ≡ memory = sym is ∙ lack in cc)
-
-pub stamp_none : (p : Type 0) (replica : ℕ) (e : DrawingError) → (replica ≡ 0) × (e ≡ Refused (refusal.BadEdit cause.Stamp)) → e ≡ memory
-    → p
-stamp_none p replica e is lack = absurd (let both : Refused (refusal.BadEdit cause.Stamp) ≡ memory = sym is.1 ∙ lack in cc)
-
 -- ---- the text
-
--- a text that was read is there
-pub text_there : (failed : Type 0) (t : HostContents) (name program : List ℕ) → OfName failed t name IsSpelled (Ok program)
-    → is_some (file_in t name) ≡ true
-text_there failed t name program is = go is.0 is.1 is.2
-  where
-    go : (read : Option (List ℕ)) → IsRead failed t name read → OfFile IsSpelled read (Ok program) → is_some (file_in t name) ≡ true
-    go None read made = absurd (let bad : Ok program ≡ Err file = made in cc)
-    go (Some bytes) read made = elim read [
-      | inl found ↦ ap is_some (sym found)
-      | inr lost ↦ absurd (let bad : Some bytes ≡ None = lost.1 in cc)
-    ]
 
 pub spelled_so : (text program : List ℕ) → program_in text ≡ Ok program → IsSpelled text (Ok program)
 spelled_so text program is = sym (ap text_told is)

@@ -1,6 +1,8 @@
-use Rattle.std.proofs.Common.{◌≡◌, ◌∙◌, sym, false, true}
+use Rattle.std.proofs.Common.{◌≡◌, ◌∙◌, sym, false, true, is_some}
 use Rattle.std.specs.Str.{bytes_eq}
-use Rattle.zed_drawing.specs.Base.{AsksBase, BaseReads}
+use Rattle.zed_drawing.specs.Base.{AsksBase, BaseReads, MayWantMemory}
+use Rattle.zed_host.specs.HostContents.{file_in}
+use Rattle.zed_drawing.proofs.Lacking.{lacks_too}
 use Rattle.zed_drawing.proofs.Asking.{nothing_read, reads_as}
 use Rattle.zed_drawing.proofs.Bases.{named_other}
 use Rattle.zed_drawing.proofs.Beside.{other_gives, other_reads, own_base, own_reads}
@@ -26,3 +28,8 @@ returns-clause-asked g c =
     let other : bytes_eq c.args.base.now c.args.file.now ≡ false = sym c.eq.ensures ∙ c.if-eq.false in
     reads_as g.H.Host.called (AsksBase c.args.presence c.args.base.now) (BaseReads c.args.presence c.args.base.now c.args.file.now) c.read_base.result _ _
     (λ calls asks. other_reads c.args.presence c.args.base.now c.args.file.now calls other asks) c.read_base.ensures.asked
+
+pub returns-clause-memory_only_when : goal.returns-clause-memory_only_when
+returns-clause-memory_only_when g c = λ t at.
+    lacks_too (is_some (file_in t c.args.base.now) ≡ true) (MayWantMemory t c.args.base.now c.args.file.now) c.read_base.result
+    (λ there. (sym c.eq.ensures ∙ c.if-eq.false, there)) (c.read_base.ensures.memory_only_when t at)

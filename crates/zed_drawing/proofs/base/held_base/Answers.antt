@@ -29,3 +29,9 @@ returns-clause-read g c = λ t at.
 
 pub returns-clause-world : goal.returns-clause-world
 returns-clause-world g c = c.in_ok-document.ensures.world c.args.number refl
+
+pub returns-in_err-document-clause-memory_only_when : goal.returns-in_err-document-clause-memory_only_when
+returns-in_err-document-clause-memory_only_when g c = λ t at.
+    let p = err_from_is_err_and c.from_residual.result c.from_residual.ensures.1 in
+    let same : p.0 ≡ c.in_err-document.field-0.0 = p.2 in
+    rw (p.1, same) (c.in_err-document.ensures.memory_only_when t at)

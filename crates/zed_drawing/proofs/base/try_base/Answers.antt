@@ -1,10 +1,13 @@
-use Rattle.std.proofs.Common.{◌≡◌, false, Some, None, refl}
+use Rattle.std.proofs.Common.{◌≡◌, false, Some, None, refl, ap, is_some, true}
 use Rattle.std.specs.Global.{Vec}
 use Rattle.std.specs.Prelude.{ℕ}
 use Rattle.std.proofs.lemmas.Result.{err_from_is_err_and}
 use Rattle.zed_drawing.specs.declared.base.Presence.TheVariants.{Optional}
 use Rattle.zed_drawing.specs.Base.{AsksBase, OfBase}
 use Rattle.zed_drawing.specs.Files.{IsTried}
+use Rattle.zed_host.specs.HostContents.{file_in}
+use Rattle.zed_drawing.proofs.Looking.{tried_there}
+use Rattle.zed_drawing.proofs.Lacking.{lacks}
 use Rattle.zed_drawing.proofs.Asking.{answered, tells_answered, tried_done, tried_failed, tried_none_lost, tried_tells}
 use Rattle.zed_drawing.proofs.Bases.{base_other}
 use Rattle.zed_drawing.proofs.Steps.{step_ok, step_refused, step_then}
@@ -58,3 +61,15 @@ pub returns-in-None-clause-failures : goal.returns-in-None-clause-failures
 returns-in-None-clause-failures g c =
     let lost = tried_none_lost g.H.Host.faults g.H.Host.failed c.in_ok-read.read c.args.host.now c.try_file.new.host c.in_ok-read.ensures.faults c.in_ok-read.ensures.failures in
     (lost.0, lost.1, tt)
+
+pub returns-in_err-read-clause-memory_only_when : goal.returns-in_err-read-clause-memory_only_when
+returns-in_err-read-clause-memory_only_when g c = λ t at.
+    let p = err_from_is_err_and c.from_residual.result c.from_residual.ensures.1 in
+    let same : p.0 ≡ c.in_err-read.field-0.0 = p.2 in
+    rw (p.1, same) (c.in_err-read.ensures.memory_only_when t at)
+
+pub returns-in-Some-clause-memory_only_when : goal.returns-in-Some-clause-memory_only_when
+returns-in-Some-clause-memory_only_when g c = λ t at.
+    let bytes = c.in-Some.bytes.items in
+    let there = tried_there _ t c.args.base.now bytes (rw c.in-Some.is at (c.in_ok-read.ensures.tried t at)) in
+    lacks (is_some (file_in t c.args.base.now) ≡ true) c.base_of.result (ap is_some there)

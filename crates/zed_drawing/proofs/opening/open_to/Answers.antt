@@ -1,10 +1,12 @@
-use Rattle.std.proofs.Common.{◌≡◌, ◌∙◌, [], ◌∷◌, false, None, Some}
+use Rattle.std.proofs.Common.{◌≡◌, ◌∙◌, [], ◌∷◌, false, None, Some, is_some, true}
 use Rattle.std.specs.Prelude.{⊤}
 use Rattle.std.proofs.lemmas.Result.{err_from_is_err_and}
 use Rattle.zed_host.specs.Calls.{Reading, call}
 use Rattle.zed_drawing.specs.Base.{beside}
-use Rattle.zed_drawing.specs.Files.{OpensAs}
+use Rattle.zed_drawing.specs.Files.{OpensAs, IsOpened}
 use Rattle.zed_drawing.specs.Opening.{LookReads, NeededReads, OpenReads, Shown, ShownReads, up_to}
+use Rattle.zed_host.specs.HostContents.{file_in}
+use Rattle.zed_drawing.proofs.Lacking.{lacks, named_there}
 use Rattle.zed_drawing.proofs.Asking.{halted_before, reads_then, tells_later}
 use Rattle.zed_drawing.proofs.Looking.{needed_behind_file, needed_join, open_behind_file, open_join, open_then, opens_surely}
 use Rattle.zed_drawing.proofs.Steps.{step_refused}
@@ -61,3 +63,15 @@ returns-clause-spares g c = λ t at.
     (NeededReads t c.args.until c.args.forcing c.args.file.now c.args.world.now) c.open_document.result _ _ _
     (λ a b. needed_join t c.args.until c.args.forcing c.args.file.now c.args.world.now (d.world, d.edits) a b opens)
     c.in_ok-document.ensures.asked (rw (c.in_ok-document.ensures.kept ∙ at) at c.open_document.ensures.spares)
+
+pub returns-in_err-document-clause-memory_only_when : goal.returns-in_err-document-clause-memory_only_when
+returns-in_err-document-clause-memory_only_when g c = λ t at.
+    let p = err_from_is_err_and c.from_residual.result c.from_residual.ensures.1 in
+    let same : p.0 ≡ c.in_err-document.field-0.0 = p.2 in
+    rw (p.1, same) (c.in_err-document.ensures.memory_only_when t at)
+
+pub returns-clause-memory_only_when : goal.returns-clause-memory_only_when
+returns-clause-memory_only_when g c = λ t at.
+    let d = c.in_ok-document.document in
+    lacks (is_some (file_in t c.args.file.now) ≡ true) c.open_document.result
+    (named_there _ t c.args.file.now (IsOpened None) (d.world, d.edits) (c.in_ok-document.ensures.opened t at))

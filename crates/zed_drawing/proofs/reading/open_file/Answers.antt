@@ -1,7 +1,9 @@
-use Rattle.std.proofs.Common.{◌≡◌, [], ◌∷◌, false}
+use Rattle.std.proofs.Common.{◌≡◌, [], ◌∷◌, false, ap, is_some, true}
 use Rattle.std.proofs.lemmas.Result.{err_from_is_err_and}
 use Rattle.zed_host.specs.Calls.{Reading, call}
 use Rattle.zed_drawing.specs.Files.{IsOpened}
+use Rattle.zed_host.specs.HostContents.{file_in}
+use Rattle.zed_drawing.proofs.Lacking.{lacks, no_memory}
 use Rattle.zed_drawing.proofs.Asking.{answered, read_failed, read_passed, read_tells, tells_answered}
 use Rattle.zed_drawing.proofs.Opened.{named, unnamed}
 use Rattle.zed_drawing.proofs.Others.{opened_other}
@@ -36,3 +38,12 @@ pub returns-clause-failures : goal.returns-clause-failures
 returns-clause-failures g c =
     tells_answered g.H.Host.faults g.H.Host.failed (IsOpened c.args.asked c.as_slice.result.now) _ c.opened.result _ _ c.in_ok-bytes.ensures.failures.0 c.opened.ensures.opened
     (opened_other c.args.asked c.as_slice.result.now)
+
+pub returns-in_err-bytes-clause-memory_only_when : goal.returns-in_err-bytes-clause-memory_only_when
+returns-in_err-bytes-clause-memory_only_when g c = λ t at.
+    let p = err_from_is_err_and c.from_residual.result c.from_residual.ensures.1 in
+    rw (p.1, p.2) (λ lack. c.in_err-bytes.ensures.memory_only_when t at (no_memory c.in_err-bytes.field-0.0 lack))
+
+pub returns-clause-memory_only_when : goal.returns-clause-memory_only_when
+returns-clause-memory_only_when g c = λ t at.
+    lacks (is_some (file_in t c.args.name.now) ≡ true) c.opened.result (ap is_some (c.in_ok-bytes.ensures.bytes t at))

@@ -1,10 +1,12 @@
-use Rattle.std.proofs.Common.{◌≡◌, [], ◌∷◌, false, Some, Err, inl, sym}
+use Rattle.std.proofs.Common.{◌≡◌, [], ◌∷◌, false, Some, Err, inl, sym, ap, is_some, true}
 use Rattle.std.proofs.lemmas.Result.{err_from_is_err_and}
 use Rattle.zed_drawing.specs.declared.error.DrawingError.TheVariants.{Refused}
 use Rattle.zed_host.specs.Calls.{Reading, call}
 use Rattle.zed_files.specs.Refusals.{world_refusal}
 use Rattle.zed_world.specs.Contents.{Contents}
 use Rattle.zed_drawing.specs.Files.{IsWorld}
+use Rattle.zed_host.specs.HostContents.{file_in}
+use Rattle.zed_drawing.proofs.Lacking.{lacks, no_memory}
 use Rattle.zed_drawing.proofs.Asking.{done_refused, read_failed, read_passed, read_tells, tells_other}
 use Rattle.zed_drawing.proofs.Opened.{named, told_refusal, told_world, unnamed}
 use Rattle.zed_drawing.proofs.Others.{or_other, world_other}
@@ -64,3 +66,12 @@ returns-clause-asked g c = read_passed g.H.Host.called c.args.name.now _ _ c.in_
 
 pub returns-clause-failures : goal.returns-clause-failures
 returns-clause-failures g c = let lost = c.in_ok-bytes.ensures.failures.0 in (lost.0, lost.1, tt)
+
+pub returns-in_err-bytes-clause-memory_only_when : goal.returns-in_err-bytes-clause-memory_only_when
+returns-in_err-bytes-clause-memory_only_when g c = λ t at.
+    let p = err_from_is_err_and c.from_residual.result c.from_residual.ensures.1 in
+    rw (p.1, p.2) (λ lack. c.in_err-bytes.ensures.memory_only_when t at (no_memory c.in_err-bytes.field-0.0 lack))
+
+pub returns-in_err-read_world-clause-memory_only_when : goal.returns-in_err-read_world-clause-memory_only_when
+returns-in_err-read_world-clause-memory_only_when g c = λ t at.
+    lacks {X = Contents} (is_some (file_in t c.args.name.now) ≡ true) c.from_residual-in_err-read_world.result (ap is_some (c.in_ok-bytes.ensures.bytes t at))

@@ -1,4 +1,3 @@
-use Rattle.std.proofs.Common.{◌≡◌}
 use Rattle.std.proofs.lemmas.Result.{err_from_is_err_and}
 use Rattle.zed_drawing.proofs.Drawing.{both_grown, both_told}
 use Rattle.zed_drawing.proofs.taking.add_to_both.Goals as goal

@@ -1,5 +1,6 @@
-use Rattle.std.proofs.Common.{◌≡◌, inl}
+use Rattle.std.proofs.Common.{◌≡◌, Err, ap, inl}
 use Rattle.std.proofs.lemmas.Result.{err_from_is_err_and}
+use Rattle.zed_drawing.specs.Refusals.{take_refusal}
 use Rattle.zed_drawing.proofs.Drawing.{alone_ends, alone_none}
 use Rattle.zed_drawing.proofs.taking.draw_alone.Goals as goal
 
@@ -7,21 +8,33 @@ pub taken_edits-requires : goal.taken_edits-requires
 taken_edits-requires c = record { file = c.requires; base = c.requires }
 
 pub returns-in_err-edits : goal.returns-in_err-edits
-returns-in_err-edits c = λ base.
+returns-in_err-edits c =
     let p = err_from_is_err_and c.from_residual.result c.from_residual.ensures.1 in
     let same : p.0 ≡ c.in_err-edits.field-0.0 = p.2 in
-    rw (p.1, same) (alone_none base c.args.file.now c.args.replica c.args.document.now c.args.world.now c.in_err-edits.field-0.0 c.in_err-edits.ensures.taken)
+    rw (p.1, same) (record {
+      draws = λ base.
+          alone_none base c.args.file.now c.args.replica c.args.document.now c.args.world.now c.in_err-edits.field-0.0 c.in_err-edits.ensures.taken;
+      refused = λ x is.
+          let first : c.in_err-edits.field-0.0 ≡ take_refusal x = (let both = c.in_err-edits.ensures.refused x is in cc) in
+          ap (λ y. Err y) first;
+    })
 
 pub deliver-requires : goal.deliver-requires
 deliver-requires c = record { fit = c.in_ok-edits.ensures.fit; joins = c.in_ok-edits.ensures.file_joins; sound = c.requires }
 
 pub returns-in_err-deliver : goal.returns-in_err-deliver
-returns-in_err-deliver c = λ base.
+returns-in_err-deliver c =
     let p = err_from_is_err_and c.from_residual-in_err-deliver.result c.from_residual-in_err-deliver.ensures.1 in
-    rw p.1 (inl p.2)
+    rw p.1 (record {
+      draws = λ base. inl p.2;
+      refused = λ x is. absurd (let no = c.in_ok-edits.ensures.refused x is in cc);
+    })
 
 pub returns : goal.returns
-returns c = λ base.
-    alone_ends base c.args.file.now c.args.replica c.args.document.now c.deliver.new.document c.args.world.now c.in_ok-edits.edits.items c.count_of-had.result c.taken_of-taken.result
-    c.alone_effect.result c.in_ok-edits.ensures.taken c.in_ok-deliver.ensures.edits c.in_ok-deliver.ensures.world c.count_of-had.ensures c.taken_of-taken.ensures
-    c.alone_effect.ensures.files c.alone_effect.ensures.text c.alone_effect.ensures.err
+returns c = record {
+  draws = λ base.
+      alone_ends base c.args.file.now c.args.replica c.args.document.now c.deliver.new.document c.args.world.now c.in_ok-edits.edits.items c.count_of-had.result c.taken_of-taken.result
+      c.alone_effect.result c.in_ok-edits.ensures.taken c.in_ok-deliver.ensures.edits c.in_ok-deliver.ensures.world c.count_of-had.ensures c.taken_of-taken.ensures
+      c.alone_effect.ensures.files c.alone_effect.ensures.text c.alone_effect.ensures.err;
+  refused = λ x is. absurd (let no = c.in_ok-edits.ensures.refused x is in cc);
+}

@@ -1,9 +1,12 @@
-use Rattle.std.proofs.Common.{◌≡◌, ◌∙◌, [], ◌∷◌, false, option_map}
+use Rattle.std.proofs.Common.{◌≡◌, ◌∙◌, [], ◌∷◌, false, option_map, None, is_some, true}
 use Rattle.std.proofs.lemmas.Result.{err_from_is_err_and}
 use Rattle.zed_document.specs.Replica.{Replica}
-use Rattle.zed_host.specs.Calls.{Call, Reading, call}
+use Rattle.zed_host.specs.Calls.{Reading, call}
 use Rattle.zed_drawing.specs.Base.{BaseReads}
 use Rattle.zed_drawing.specs.Taking.{TakeReads}
+use Rattle.zed_host.specs.HostContents.{file_in}
+use Rattle.zed_drawing.specs.Files.{IsOpened}
+use Rattle.zed_drawing.proofs.Lacking.{lacks, named_there}
 use Rattle.zed_drawing.proofs.Asking.{done_halted, done_then, halted_before, lost_later, tells_then}
 use Rattle.zed_drawing.proofs.Gathering.{FrontReads, front_join, gathered_no_base, gathered_no_file, gathered_no_world, gathered_whole, good_base, take_behind_base, take_behind_file, take_join}
 use Rattle.zed_drawing.proofs.taking.gather.Goals as goal
@@ -117,3 +120,21 @@ returns-clause-failures g c =
     let front = lost_later g.H.Host.faults g.H.Host.failed _ _ _ (first.0, first.1) (second.0, second.1) in
     let all = lost_later g.H.Host.faults g.H.Host.failed _ _ _ front (third.0, third.1) in
     (all.0, all.1, tt)
+
+pub returns-in_err-document-clause-memory_only_when : goal.returns-in_err-document-clause-memory_only_when
+returns-in_err-document-clause-memory_only_when g c = λ t at.
+    let p = err_from_is_err_and c.from_residual.result c.from_residual.ensures.1 in
+    let same : p.0 ≡ c.in_err-document.field-0.0 = p.2 in
+    rw (p.1, same) (c.in_err-document.ensures.memory_only_when t at)
+
+pub returns-in_err-base-clause-memory_only_when : goal.returns-in_err-base-clause-memory_only_when
+returns-in_err-base-clause-memory_only_when g c = λ t at.
+    let d = c.in_ok-document.document in
+    lacks (is_some (file_in t c.args.file.now) ≡ true) c.from_residual-in_err-base.result
+    (named_there _ t c.args.file.now (IsOpened None) (d.world, d.edits) (c.in_ok-document.ensures.opened t at))
+
+pub returns-in_err-world-clause-memory_only_when : goal.returns-in_err-world-clause-memory_only_when
+returns-in_err-world-clause-memory_only_when g c = λ t at.
+    let d = c.in_ok-document.document in
+    lacks (is_some (file_in t c.args.file.now) ≡ true) c.from_residual-in_err-world.result
+    (named_there _ t c.args.file.now (IsOpened None) (d.world, d.edits) (c.in_ok-document.ensures.opened t at))

@@ -1,9 +1,11 @@
-use Rattle.std.proofs.Common.{◌≡◌, [], inl, refl}
+use Rattle.std.proofs.Common.{◌≡◌, [], inl, refl, ◌≢◌, is_some, true}
 use Rattle.std.proofs.lemmas.Result.{err_from_is_err_and}
 use Rattle.zed_files.specs.Texts.{text_in}
 use Rattle.zed_drawing.specs.Asked.{Did}
 use Rattle.zed_drawing.specs.Base.{base_word, presence_of}
-use Rattle.zed_drawing.specs.Taking.{ComesToTake, TakeReads}
+use Rattle.zed_drawing.specs.Taking.{ComesToTake, TakeReads, MayWantMemory}
+use Rattle.zed_host.specs.HostContents.{file_in}
+use Rattle.zed_drawing.proofs.Lacking.{lacks, lacks_too, stamp_none}
 use Rattle.zed_drawing.proofs.Asking.{halted_at_once, halted_stopped, none_lost, tells_other}
 use Rattle.zed_drawing.proofs.Ending.{refused_ends}
 use Rattle.zed_drawing.proofs.Gathering.{no_replica_other, take_some, takes_no_replica, told_no_replica}
@@ -60,3 +62,19 @@ returns-in-Some-clause-no_author g c = λ none. absurd (c.in_ok-check_replica.en
 
 pub returns-in-None-clause-no_author : goal.returns-in-None-clause-no_author
 returns-in-None-clause-no_author g c = λ none. absurd (c.in_ok-check_replica.ensures.ok none)
+
+pub returns-in_err-check_replica-clause-memory_only_when : goal.returns-in_err-check_replica-clause-memory_only_when
+returns-in_err-check_replica-clause-memory_only_when g c = λ t at.
+    let p = err_from_is_err_and c.from_residual.result c.from_residual.ensures.1 in
+    let same : p.0 ≡ c.in_err-check_replica.field-0.0 = p.2 in
+    rw (p.1, same) (stamp_none (MayWantMemory t (text_in c.args.base) c.args.replica c.args.file.now) c.args.replica c.in_err-check_replica.field-0.0
+    c.in_err-check_replica.ensures.err)
+
+pub returns-in-Some-clause-memory_only_when : goal.returns-in-Some-clause-memory_only_when
+returns-in-Some-clause-memory_only_when g c = λ t at.
+    rw c.in-Some.is (lacks_too (is_some (file_in t c.args.file.now) ≡ true) ((c.args.replica ≢ 0) × (is_some (file_in t c.args.file.now) ≡ true)) c.take_from.result
+    (λ there. (c.in_ok-check_replica.ensures.ok, there)) (c.take_from.ensures.memory_only_when t at))
+
+pub returns-in-None-clause-memory_only_when : goal.returns-in-None-clause-memory_only_when
+returns-in-None-clause-memory_only_when g c = λ t at.
+    rw c.in-None.is (lacks (c.args.replica ≢ 0) c.take_beside.result c.in_ok-check_replica.ensures.ok)

@@ -1,9 +1,11 @@
-use Rattle.std.proofs.Common.{◌≡◌, ◌∙◌, [], inl, refl}
+use Rattle.std.proofs.Common.{◌≡◌, ◌∙◌, [], inl, refl, is_some, true}
 use Rattle.std.proofs.lemmas.Result.{err_from_is_err_and}
 use Rattle.zed_host.proofs.Counts.{counted_up}
 use Rattle.zed_drawing.specs.Asked.{Did}
 use Rattle.zed_drawing.specs.Effects.{names_of}
 use Rattle.zed_drawing.specs.Taking.{TakeReads, TakesFrom}
+use Rattle.zed_host.specs.HostContents.{file_in}
+use Rattle.zed_drawing.proofs.Lacking.{lacks_none}
 use Rattle.zed_drawing.proofs.Asking.{did_ok, did_or_stopped, halted_stopped, tells_ended}
 use Rattle.zed_drawing.proofs.Ending.{effect_ends, refused_ends}
 use Rattle.zed_drawing.proofs.So.{take_so}
@@ -53,3 +55,13 @@ pub returns-clause-failures : goal.returns-clause-failures
 returns-clause-failures g c =
     let before = c.in_ok-effect.ensures.failures in
     tells_ended g.H.Host.faults g.H.Host.failed c.carry_out.result _ _ _ (before.0, before.1) c.carry_out.ensures.faults c.carry_out.ensures.failures
+
+pub returns-in_err-effect-clause-memory_only_when : goal.returns-in_err-effect-clause-memory_only_when
+returns-in_err-effect-clause-memory_only_when g c = λ t at.
+    let p = err_from_is_err_and c.from_residual.result c.from_residual.ensures.1 in
+    let same : p.0 ≡ c.in_err-effect.field-0.0 = p.2 in
+    rw (p.1, same) (c.in_err-effect.ensures.memory_only_when t at)
+
+pub returns-clause-memory_only_when : goal.returns-clause-memory_only_when
+returns-clause-memory_only_when g c = λ t at.
+    lacks_none (is_some (file_in t c.args.file.now) ≡ true) c.carry_out.result c.carry_out.ensures.err

@@ -1,6 +1,8 @@
-use Rattle.std.proofs.Common.{◌≡◌}
+use Rattle.std.proofs.Common.{◌≡◌, is_some, true}
 use Rattle.std.proofs.lemmas.Result.{err_from_is_err_and}
 use Rattle.zed_drawing.specs.Taking.{Draws, TakeReads, given_of}
+use Rattle.zed_host.specs.HostContents.{file_in}
+use Rattle.zed_drawing.proofs.Lacking.{gathered_there, lacks}
 use Rattle.zed_drawing.proofs.Asking.{answered, tells_answered}
 use Rattle.zed_drawing.proofs.Drawing.{answer_writes}
 use Rattle.zed_drawing.proofs.Gathering.{other_named, taken_ends, takes_not}
@@ -63,3 +65,14 @@ returns-clause-failures g c =
     let lost = c.in_ok-gathered.ensures.failures in
     tells_answered g.H.Host.faults g.H.Host.failed (Draws c.args.base.now c.args.file.now c.args.replica read) (λ x. x) c.draw.result _ _ (lost.0, lost.1) c.draw.ensures
     (draws_other c.args.base.now c.args.file.now c.args.replica read)
+
+pub returns-in_err-gathered-clause-memory_only_when : goal.returns-in_err-gathered-clause-memory_only_when
+returns-in_err-gathered-clause-memory_only_when g c = λ t at.
+    let p = err_from_is_err_and c.from_residual.result c.from_residual.ensures.1 in
+    let same : p.0 ≡ c.in_err-gathered.field-0.0 = p.2 in
+    rw (p.1, same) (c.in_err-gathered.ensures.memory_only_when t at)
+
+pub returns-clause-memory_only_when : goal.returns-clause-memory_only_when
+returns-clause-memory_only_when g c = λ t at.
+    lacks (is_some (file_in t c.args.file.now) ≡ true) c.draw.result
+    (gathered_there _ t c.args.presence c.args.base.now c.args.file.now c.args.world.now (given_of c.in_ok-gathered.gathered) (c.in_ok-gathered.ensures.gathered t at))

@@ -1,4 +1,4 @@
-use Rattle.std.proofs.Common.{◌≡◌, inr}
+use Rattle.std.proofs.Common.{◌≡◌, ◌∙◌, Err, ap, inr}
 use Rattle.std.proofs.lemmas.Result.{err_from_is_err_and}
 use Rattle.zed_drawing.specs.Refusals.{take_refusal}
 use Rattle.zed_drawing.proofs.Drawing.{taken_is, taken_not}
@@ -13,6 +13,9 @@ returns-in_err-edits c =
       fit = tt;
       base_joins = tt;
       file_joins = tt;
+      refused = λ x is.
+          let first : c.in_err-edits.field-0.0 ≡ x = (let both = c.in_err-edits.ensures.refused x is in cc) in
+          ap (λ y. Err y) (same ∙ ap take_refusal first);
     })
 
 pub returns : goal.returns
@@ -22,4 +25,5 @@ returns c = record {
   fit = c.in_ok-edits.ensures.taken.lead.fit;
   base_joins = c.in_ok-edits.ensures.taken.lead.joins;
   file_joins = c.in_ok-edits.ensures.joins;
+  refused = λ x is. absurd (let no = c.in_ok-edits.ensures.refused x is in cc);
 }

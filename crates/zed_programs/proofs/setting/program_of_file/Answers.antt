@@ -3,9 +3,10 @@ use Rattle.std.proofs.lemmas.Result.{err_from_is_err_and}
 use Rattle.zed_host.specs.Calls.{Reading, call}
 use Rattle.zed_host.specs.HostContents.{file_in}
 use Rattle.zed_drawing.proofs.Asking.{answered, read_failed, read_passed, read_tells, tells_answered}
+use Rattle.zed_drawing.proofs.Lacking.{lacks, no_memory}
 use Rattle.zed_drawing.proofs.Opened.{named, unnamed}
 use Rattle.zed_programs.specs.Setting.{IsSpelled}
-use Rattle.zed_programs.proofs.SetSteps.{lacks, no_memory, spelled_other}
+use Rattle.zed_programs.proofs.SetSteps.{spelled_other}
 use Rattle.zed_programs.proofs.setting.program_of_file.Goals as goal
 
 pub returns-in_err-bytes-clause-read : goal.returns-in_err-bytes-clause-read

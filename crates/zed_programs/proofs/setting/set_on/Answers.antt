@@ -20,4 +20,4 @@ pub returns : goal.returns
 returns c =
     let d = c.args.document.now in
     sets_then c.args.file.now c.args.replica c.args.board c.args.stat c.args.program.now (d.world, d.edits) c.in_ok-world.world c.draw_alone.result c.in_ok-world.ensures
-    (c.draw_alone.ensures c.args.file.now)
+    (c.draw_alone.ensures.draws c.args.file.now)

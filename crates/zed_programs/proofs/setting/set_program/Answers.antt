@@ -6,7 +6,8 @@ use Rattle.zed_drawing.specs.Effects.{names_of}
 use Rattle.zed_programs.specs.Setting.{ComesToSet, MayWantMemory, SetReads}
 use Rattle.zed_drawing.proofs.Asking.{did_ok, did_or_stopped, halted_stopped, tells_ended}
 use Rattle.zed_drawing.proofs.Ending.{effect_ends, refused_ends}
-use Rattle.zed_programs.proofs.SetSteps.{lacks_none, set_so}
+use Rattle.zed_drawing.proofs.Lacking.{lacks_none}
+use Rattle.zed_programs.proofs.SetSteps.{set_so}
 use Rattle.zed_programs.proofs.setting.set_program.Goals as goal
 
 pub returns-in_err-effect-clause-ends : goal.returns-in_err-effect-clause-ends

@@ -3,8 +3,9 @@ use Rattle.std.proofs.lemmas.Result.{err_from_is_err_and}
 use Rattle.zed_host.specs.Calls.{Reading, call}
 use Rattle.zed_host.specs.HostContents.{file_in}
 use Rattle.zed_drawing.proofs.Asking.{halted_before, reads_then, tells_later}
-use Rattle.zed_programs.specs.Setting.{SetReads}
-use Rattle.zed_programs.proofs.SetSteps.{lacks, set_behind, set_join, text_not, text_then, text_there}
+use Rattle.zed_programs.specs.Setting.{IsSpelled, SetReads}
+use Rattle.zed_drawing.proofs.Lacking.{lacks, named_there}
+use Rattle.zed_programs.proofs.SetSteps.{set_behind, set_join, text_not, text_then}
 use Rattle.zed_programs.proofs.setting.set_text.Goals as goal
 
 pub returns-in_err-program-clause-comes : goal.returns-in_err-program-clause-comes
@@ -64,4 +65,4 @@ returns-in_err-program-clause-memory_only_when g c = λ t at.
 
 pub returns-clause-memory_only_when : goal.returns-clause-memory_only_when
 returns-clause-memory_only_when g c = λ t at.
-    lacks (is_some (file_in t c.args.text.now) ≡ true) c.set_in.result (text_there _ t c.args.text.now c.in_ok-program.program.items (c.in_ok-program.ensures.read t at))
+    lacks (is_some (file_in t c.args.text.now) ≡ true) c.set_in.result (named_there _ t c.args.text.now IsSpelled c.in_ok-program.program.items (c.in_ok-program.ensures.read t at))

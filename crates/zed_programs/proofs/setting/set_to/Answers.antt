@@ -3,8 +3,9 @@ use Rattle.std.proofs.lemmas.Result.{err_from_is_err_and}
 use Rattle.zed_host.specs.HostContents.{file_in}
 use Rattle.zed_drawing.proofs.Asking.{halted_at_once, none_lost, tells_other}
 use Rattle.zed_drawing.proofs.Gathering.{no_replica_other}
+use Rattle.zed_drawing.proofs.Lacking.{lacks_too, stamp_none}
 use Rattle.zed_programs.specs.Setting.{MayWantMemory, SetReads}
-use Rattle.zed_programs.proofs.SetSteps.{lacks_too, set_gives, set_no_replica, set_reads, stamp_none}
+use Rattle.zed_programs.proofs.SetSteps.{set_gives, set_no_replica, set_reads}
 use Rattle.zed_programs.proofs.setting.set_to.Goals as goal
 
 pub returns-in_err-check_replica-clause-comes : goal.returns-in_err-check_replica-clause-comes
