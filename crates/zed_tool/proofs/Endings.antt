@@ -216,7 +216,7 @@ done : {H : Type 0} (called : H → Call → H → Type 0) (p : Type 0) (moved :
     → EndsCommand called p moved command old new t (Ok status) left → IsDone (ComesTo ⊥ t moved command) status left
 done called p moved (Open until forcing file world) old new t status left never is =
     drawn_done file p (ComesToOpen p t until (forcing_of forcing) file world) (ComesToOpen ⊥ t until (forcing_of forcing) file world) (Did called (OpenReads (forcing_of forcing) file world) old new) t is.0 status left
-    (λ x. open_so p ⊥ t until (forcing_of forcing) file world x never) is.1 is.2
+    (λ x. open_so p ⊥ t until (forcing_of forcing) file world x never) is.1.0 is.2
 done called p moved (Take base file replica world) old new t status left never is =
     drawn_done file p (ComesToTake p t base file replica world) (ComesToTake ⊥ t base file replica world) (Did called (TakeReads (presence_of base) (base_word base world) file world) old new) t is.0 status left
     (λ x. take_so p ⊥ t base file replica world x never) is.1 is.2
@@ -247,7 +247,7 @@ stopped : {H : Type 0} (called : H → Call → H → Type 0) (p : Type 0) (move
     → EndsCommand called p moved command old new t (Err e) left → IsStopped t (ComesTo ⊥ t moved command) e left
 stopped called p moved (Open until forcing file world) old new t e left never is =
     drawn_stopped file p (ComesToOpen p t until (forcing_of forcing) file world) (ComesToOpen ⊥ t until (forcing_of forcing) file world) (Did called (OpenReads (forcing_of forcing) file world) old new) t is.0 e left
-    (λ x. open_so p ⊥ t until (forcing_of forcing) file world x never) never is.1 is.2
+    (λ x. open_so p ⊥ t until (forcing_of forcing) file world x never) never is.1.0 is.2
 stopped called p moved (Take base file replica world) old new t e left never is =
     drawn_stopped file p (ComesToTake p t base file replica world) (ComesToTake ⊥ t base file replica world) (Did called (TakeReads (presence_of base) (base_word base world) file world) old new) t is.0 e left
     (λ x. take_so p ⊥ t base file replica world x never) never is.1 is.2

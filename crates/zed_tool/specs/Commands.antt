@@ -44,7 +44,7 @@ use Rattle.zed_programs.specs.Setting.{ComesToSet as ComesToSetProgram, SetReads
 use Rattle.zed_drawing.specs.Asked.{Asks, Did}
 use Rattle.zed_drawing.specs.Base.{base_word, presence_of}
 use Rattle.zed_drawing.specs.Effects.{Ends}
-use Rattle.zed_drawing.specs.Opening.{ComesToOpen, OpenReads, OpenWrites}
+use Rattle.zed_drawing.specs.Opening.{ComesToOpen, NeededReads, OpenReads, OpenWrites}
 use Rattle.zed_drawing.specs.Taking.{ComesToTake, TakeReads, TakeWrites}
 use Rattle.zed_tool.specs.Answers.{Answer, Handed, drawn_as, linted_as, told_as, wrong_word}
 
@@ -121,7 +121,8 @@ AsksSet called file words (Err bad) answer old new = (answer ≡ Err (wrong_word
 abbrev pub EndsCommand : {H : Type 0} → (H → Call → H → Type 0) → Type 0 → Led → Command → H → H → HostContents → Answer → Option HostContents → Type 0
 EndsCommand called failed moved (Open until forcing file world) old new t answer left =
     Handed (drawn_as file) (λ r. Ends failed (ComesToOpen failed t until (forcing_of forcing) file world)
-    (Did called (OpenReads (forcing_of forcing) file world) old new) t r left) answer
+    (Did called (OpenReads (forcing_of forcing) file world) old new) t r left
+    × Asks called (NeededReads t until (forcing_of forcing) file world) (OpenWrites world) r old new) answer
 EndsCommand called failed moved (Take base file replica world) old new t answer left =
     Handed (drawn_as file) (λ r. Ends failed (ComesToTake failed t base file replica world)
     (Did called (TakeReads (presence_of base) (base_word base world) file world) old new) t r left) answer

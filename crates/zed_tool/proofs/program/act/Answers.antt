@@ -5,7 +5,8 @@ use Rattle.zed_tool.proofs.program.act.Goals as goal
 pub returns-in-Open-clause-ends : goal.returns-in-Open-clause-ends
 returns-in-Open-clause-ends g c = λ t at.
     let ended = c.open.ensures.ends t at in
-    rw c.in-Open.is (c.open.result, rw c.forcing_of.ensures at ended, c.drawn.ensures)
+    let spared = c.open.ensures.spares t at in
+    rw c.in-Open.is (c.open.result, (rw c.forcing_of.ensures at ended, rw c.forcing_of.ensures at spared), c.drawn.ensures)
 
 pub returns-in-Open-clause-asked : goal.returns-in-Open-clause-asked
 returns-in-Open-clause-asked g c =
