@@ -1,5 +1,5 @@
 -- The programs of a world.
-use Rattle.std.proofs.Common.{◌≡◌, ℕ, ◌+◌, ◌<◌, ◌^◌, List, [], ◌∷◌, ◌++◌, length, drop, get_or, suc, add-one, refl, append_assoc, arith, IfSome}
+use Rattle.std.proofs.Common.{◌≡◌, ℕ, ◌+◌, ◌<◌, ◌^◌, List, [], ◌∷◌, ◌++◌, length, drop, get_or, suc, add-one, refl, append_assoc, IfSome}
 use Rattle.std.specs.List.{AllByRecursion, filter_map}
 use Rattle.zed_types.specs.declared.tile.Tile.{Tile}
 use Rattle.zed_types.specs.Table.{map_from}

@@ -11,7 +11,7 @@ use Rattle.zed_editfile.specs.declared.error.EditFileError.{EditFileError}
 use Rattle.zed_editfile.specs.declared.error.EditFileError.TheVariants.{Memory, RecordLength}
 use Rattle.zed_editfile.specs.Spelling.{number, record_text, AreOf}
 use Rattle.zed_editfile.specs.Reading.{edit_at, SpellsString}
-use Rattle.zed_editfile.specs.Stream.{Stop, waits, fails, is_length, fault_of, body_at, record_stop, AreRecords, Frames, Gains, HasLength, IsCutShort, MayWantMemory, MayWantMemoryBehind}
+use Rattle.zed_editfile.specs.Stream.{Stop, waits, fails, is_length, fault_of, body_at, record_stop, AreRecords, Frames, Gains, HasLength, MayWantMemory, MayWantMemoryBehind}
 use Rattle.zed_editfile.proofs.Numbers.{IsBytes, IsBytes-front, IsBytes-behind, length_number, number_is, number_back}
 use Rattle.zed_editfile.proofs.Edits.{edit_takes}
 

@@ -19,7 +19,7 @@ use Rattle.zed_editfile.specs.declared.error.EditFileError.{EditFileError}
 use Rattle.zed_editfile.specs.declared.error.EditFileError.TheVariants.{Memory, Magic, NewVersion, OtherWorld, RecordLength, BadEdit, CutShort}
 use Rattle.zed_editfile.specs.Laws.{CutIsToldAtTheEnd}
 use Rattle.zed_editfile.specs.Reading.{Field, mapped, by_kind, pair_at, unless_faulty, byte_at, number_at, integer_at, boolean_at, string_at, stamp_at, name_at, board_with, stat_with, text_with, element_with, board_name_at, stat_name_at, text_name_at, element_name_at, optional_at, tile_at, rectangle_at, third_parameter_at, key_of, flag_of, header_value_at, header_setting_at, board_value_at, board_setting_at, stat_value_at, stat_setting_at, stat_fields_at, set_board_at, set_cells_at, stat_add_at, set_stat_at, text_insert_at, range_at, text_delete_at, op_at, unchecked_edit_at, edit_at}
-use Rattle.zed_editfile.specs.Stream.{Stop, fails, waits, fault_of, has_letters, is_length, is_other, is_version, body_at, head_stop, record_stop, Progress, stop_of, Stops}
+use Rattle.zed_editfile.specs.Stream.{Stop, fault_of, has_letters, is_length, is_other, is_version, body_at, head_stop, record_stop, Progress, stop_of, Stops}
 use Rattle.zed_editfile.proofs.Stopping.{StopsBut, choice, failing, nowhere, waiting}
 
 -- ---- what is read may be bad, but never cut short

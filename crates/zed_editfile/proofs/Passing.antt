@@ -1,5 +1,5 @@
 -- What stands behind numbers, and behind one text after the other.
-use Rattle.std.proofs.Common.{◌≡◌, refl, inr, ℕ, ℤ, pos, get_or, ◌^◌, ◌<◌, ◌≤◌, Option, Some, None, List, [], ◌∷◌, ◌++◌, length, take, drop, sym, ap, ◌∙◌, append_assoc, arith, length-append}
+use Rattle.std.proofs.Common.{◌≡◌, refl, inr, ℕ, ℤ, pos, get_or, ◌^◌, ◌<◌, ◌≤◌, Option, Some, None, List, [], ◌∷◌, ◌++◌, length, drop, sym, ap, ◌∙◌, append_assoc, arith, length-append}
 use Rattle.std.proofs.lemmas.List.{append-nil, append_cancel_left, take-append-drop}
 use Rattle.std.specs.List.{flat_map}
 use denote.Ref.{Bor}
@@ -7,7 +7,7 @@ use Rattle.byteorder.specs.Endian.{little_number}
 use Rattle.zed_op.specs.declared.op.Edit.{Edit}
 use Rattle.std.specs.Prelude.{IfSome, is_some, true}
 use Rattle.zed_editfile.specs.declared.error.EditFileError.{EditFileError}
-use Rattle.zed_editfile.specs.Stream.{Feeds, IsRecord, Progress}
+use Rattle.zed_editfile.specs.Stream.{Feeds, IsRecord}
 use Rattle.zed_editfile.proofs.Found.{at_rest, goes_on, no_record}
 use Rattle.zed_editfile.specs.Known.{Lacks, Past}
 use Rattle.zed_editfile.specs.Spelling.{number, integer, record_text, IsOf}

@@ -1,5 +1,5 @@
 -- Which fields, ops and edits have a string, by the bytes that spell them.
-use Rattle.std.proofs.Common.{◌≡◌, ℕ, Bool, true, false, cond, eqb, List, length, Option, Some, None, Result, Ok, Err, refl, sym, ap, subst, ◌∙◌, arith, ◌⊎◌, inl, inr}
+use Rattle.std.proofs.Common.{◌≡◌, ℕ, Bool, true, cond, eqb, List, length, Result, Ok, Err, sym, subst, arith, inl, inr}
 use Rattle.std.proofs.lemmas.Bool.{lt-ltb}
 use Rattle.zed_types.specs.declared.header.FlagSlot.{FlagSlot}
 use Rattle.zed_types.specs.declared.header.HeaderSetting.{HeaderSetting}
@@ -20,7 +20,7 @@ use Rattle.zed_op.specs.Growth.{has_string}
 use Rattle.zed_op.specs.Verdict.{is_genesis, BeginsItsWorld, HangsOnItsWorld}
 use Rattle.zed_editfile.specs.declared.error.EditFileError.{EditFileError}
 use Rattle.zed_editfile.specs.declared.error.EditFileError.TheVariants.{BadEdit}
-use Rattle.zed_editfile.specs.Reading.{Field, reads_such, mapped, pair_at, byte_at, stamp_at, op_at, op_in, unchecked_edit_at, SpellsString, string_at, board_name_at, board_setting_at, set_board_at}
+use Rattle.zed_editfile.specs.Reading.{Field, reads_such, mapped, byte_at, stamp_at, op_at, op_in, unchecked_edit_at, SpellsString, string_at}
 use Rattle.zed_editfile.proofs.Codec.{chosen}
 
 -- ---- what is made of a string has it

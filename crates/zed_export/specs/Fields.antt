@@ -8,7 +8,6 @@ use Rattle.zed_types.specs.declared.names.TextId.{TextId}
 use Rattle.zed_types.specs.declared.stat_field.ThirdParameter.{ThirdParameter}
 use Rattle.zed_types.specs.declared.stat_field.ThirdParameter.TheVariants as third
 use Rattle.zed_types.specs.Names.{same_name}
-use Rattle.zed_world.specs.Contents.{Contents}
 use Rattle.zed_world.specs.Fields.{board_number}
 use Rattle.zed_world.specs.Normal.{IsInteger}
 use Rattle.zed_world.specs.declared.header.Header.{Header}

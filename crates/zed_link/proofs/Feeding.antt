@@ -1,6 +1,6 @@
 -- Pieces one after the other, and records that are known.
-use Rattle.std.proofs.Common.{◌≡◌, ◌∙◌, ◌++◌, ◌+◌, ◌<◌, ◌≤◌, ◌^◌, ℕ, Bool, true, false, cond, List, [], ◌∷◌, Option, Some, None, Ok, refl, ap, sym, subst, append-nil, append_assoc, arith, length, is_some, inl, inr, Result, Err}
-use Rattle.std.specs.Prelude.{Contains, IfSome, ◌⊎◌}
+use Rattle.std.proofs.Common.{◌≡◌, ◌∙◌, ◌++◌, ◌+◌, ◌<◌, ◌≤◌, ℕ, false, List, [], ◌∷◌, Option, Some, None, Ok, refl, ap, sym, subst, append-nil, append_assoc, arith, length, inl, inr, Err}
+use Rattle.std.specs.Prelude.{IfSome}
 use denote.Ref.{Bor}
 use Rattle.std.proofs.lemmas.List.{length-append}
 use Rattle.zed_types.specs.declared.stamp.Stamp.{Stamp}
@@ -13,18 +13,15 @@ use Rattle.zed_history.specs.Finding.{edit_with}
 use Rattle.zed_history.proofs.Clashing.{edit_with-stands}
 use Rattle.zed_document.specs.declared.delivered.Delivered.{Delivered}
 use Rattle.zed_document.specs.declared.delivered.State.TheVariants.{Known}
-use Rattle.zed_document.specs.Delivery.{AnswersFit, Answers}
+use Rattle.zed_document.specs.Delivery.{Answers}
 use Rattle.zed_document.specs.Replica.{Replica}
 use Rattle.zed_document.specs.declared.error.DocumentError.TheVariants as document
 use Rattle.zed_document.specs.Counts.{NoCountFalls}
-use Rattle.zed_editfile.specs.declared.error.EditFileError.{EditFileError}
 use Rattle.zed_link.specs.declared.error.LinkError.{LinkError}
-use Rattle.zed_link.specs.declared.error.LinkError.TheVariants.{Memory, Clash}
 use Rattle.zed_link.specs.declared.pulled.Pulled.{Pulled}
 use Rattle.zed_link.specs.Pieces.{HasRoomFor, IsPassed, IsStopped, TakesPiece}
-use Rattle.zed_link.specs.Refusals.{file_refusal}
 use Rattle.zed_link.specs.Pull.{AllDelivered, StopsForMemory}
-use Rattle.zed_link.specs.Tally.{plus, state_in, states, tally}
+use Rattle.zed_link.specs.Tally.{plus, states, tally}
 use Rattle.zed_link.proofs.Deliveries.{counted_more, delivered_more, refused_before, stops_more}
 use Rattle.zed_document.proofs.Fronts.{falls_more}
 use Rattle.zed_link.proofs.Tallies.{tally_below}

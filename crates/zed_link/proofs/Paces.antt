@@ -1,5 +1,5 @@
 -- How many bytes reads hand over, by the pace of their link.
-use Rattle.std.proofs.Common.{◌≡◌, ◌∙◌, ◌++◌, ◌+◌, ◌-◌, ◌*◌, ◌<◌, ◌≤◌, ◌⊎◌, min, max, ℕ, List, [], Option, Some, None, refl, ap, sym, subst, arith, length, suc}
+use Rattle.std.proofs.Common.{◌≡◌, ◌∙◌, ◌++◌, ◌+◌, ◌-◌, ◌*◌, ◌<◌, ◌≤◌, ◌⊎◌, min, max, ℕ, List, [], Option, Some, None, ap, sym, subst, arith, length, suc}
 use mathlib.Core.Logic.{inl, inr}
 use Rattle.std.proofs.lemmas.List.{length-append}
 use Rattle.std.proofs.Math.Nat.{le-max_left, max-le, min-le_left, min-le_right, suc-mul}

@@ -4,11 +4,11 @@ use Rattle.zed_world.specs.declared.error.WorldError.{WorldError}
 use Rattle.zed_world.specs.declared.error.WorldError.TheVariants as world
 use Rattle.zed_files.specs.declared.refusal.Refusal.{Refusal}
 use Rattle.zed_files.specs.declared.refusal.Refusal.TheVariants.{Memory}
-use Rattle.std.proofs.Common.{◌≡◌, ◌∙◌, ℕ, List, Option, Some, None, Result, Ok, Err, refl, ap, sym, subst, inl, inr}
+use Rattle.std.proofs.Common.{◌≡◌, ◌∙◌, ℕ, List, Result, Ok, Err, refl, ap, sym, inl, inr}
 use Rattle.std.specs.Prelude.{◌⊎◌, IfErr}
 use Rattle.zed_world.specs.Contents.{Contents}
 use Rattle.zed_world.specs.Reading.{world_at}
-use Rattle.zed_world.specs.Writing.{HasText, first_over, unless_refused, world_text, written}
+use Rattle.zed_world.specs.Writing.{HasText, world_text, written}
 use Rattle.zed_files.specs.Refusals.{TellsRefusal, world_refusal}
 use Rattle.zed_making.specs.Fresh.{MayWantMemory, refused_as}
 

@@ -3,7 +3,7 @@ use Rattle.zed_op.specs.declared.op.Edit.{Edit}
 use Rattle.zed_world.specs.declared.error.WorldError.{WorldError}
 use Rattle.zed_files.specs.declared.refusal.Refusal.{Refusal}
 use Rattle.zed_files.specs.declared.refusal.Refusal.TheVariants.{NoLink}
-use Rattle.std.proofs.Common.{◌≡◌, ◌∷◌, [], ℕ, zero, suc, Bool, true, false, List, Some, Result, Ok, Err, length, refl, subst, nat_lt, inl, inr}
+use Rattle.std.proofs.Common.{◌≡◌, ◌∷◌, [], ℕ, zero, suc, Bool, true, false, List, Result, Ok, Err, length, refl, subst, nat_lt, inl, inr}
 use Rattle.std.specs.Prelude.{MatchBool}
 use Rattle.zed_action.specs.Deeds.{with_edits}
 use Rattle.zed_document.specs.Replica.{Replica}

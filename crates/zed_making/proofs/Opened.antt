@@ -2,7 +2,7 @@
 use Rattle.zed_action.specs.declared.error.ActionError.{ActionError}
 use Rattle.zed_files.specs.declared.refusal.Refusal.{Refusal}
 use Rattle.zed_files.specs.declared.refusal.Refusal.TheVariants.{Memory}
-use Rattle.std.proofs.Common.{◌≡◌, ◌∙◌, ◌≢◌, ℕ, zero, suc, false, List, Some, None, Result, Ok, Err, refl, ap, sym, subst, MatchResult, inl, inr}
+use Rattle.std.proofs.Common.{◌≡◌, ◌∙◌, ◌≢◌, ℕ, zero, suc, false, List, None, Result, Ok, Err, refl, ap, sym, subst, MatchResult, inl, inr}
 use Rattle.std.specs.Prelude.{◌⊎◌}
 use Rattle.zed_document.specs.Replica.{Replica}
 use Rattle.zed_action.specs.Refusals.{memory as no_memory}

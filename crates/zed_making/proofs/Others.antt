@@ -8,7 +8,7 @@ use Rattle.zed_link.specs.declared.error.LinkError.TheVariants as link_error
 use Rattle.zed_link.specs.Counting.{Counted}
 use Rattle.zed_link.specs.Pull.{most_reads}
 use Rattle.zed_session.specs.Told as linked
-use Rattle.std.proofs.Common.{◌≡◌, ◌∙◌, ◌∷◌, [], ℕ, zero, suc, Bool, true, false, List, Some, Result, Ok, Err, length, refl, subst, sym, nat_lt, inl, inr}
+use Rattle.std.proofs.Common.{◌≡◌, ◌∙◌, ◌∷◌, [], ℕ, zero, suc, Bool, true, false, List, Result, Ok, Err, length, refl, subst, sym, nat_lt, inl, inr}
 use Rattle.std.specs.Prelude.{MatchBool}
 use Rattle.zed_action.specs.Deeds.{with_edits}
 use Rattle.zed_document.specs.Replica.{Replica}

@@ -1,5 +1,4 @@
 -- What pulls over links come to, one after the other.
-use Rattle.zed_link.specs.declared.error.LinkError.TheVariants as link
 use Rattle.zed_op.specs.declared.op.Edit.{Edit}
 use Rattle.zed_link.specs.declared.error.LinkError.{LinkError}
 use Rattle.zed_link.specs.declared.pulled.Pulled.{Pulled}

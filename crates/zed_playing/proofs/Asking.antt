@@ -1,15 +1,15 @@
 -- What a playtest that is kept asked of its host.
 use Rattle.zed_files.specs.declared.refusal.Refusal.{Refusal}
 use Rattle.zed_files.specs.declared.refusal.Refusal.TheVariants.{File, Memory}
-use Rattle.std.proofs.Common.{◌≡◌, ◌≢◌, ◌∙◌, ℕ, true, false, List, [], ◌∷◌, ◌++◌, Option, Some, None, Result, Ok, Err, IfErr, ap, append_assoc, append-nil, map, refl, subst, sym, inl, inr}
+use Rattle.std.proofs.Common.{◌≡◌, ◌∙◌, ℕ, true, false, List, [], ◌∷◌, ◌++◌, Option, Some, None, Result, Ok, Err, IfErr, ap, append_assoc, map, refl, subst, sym, inl, inr}
 use Rattle.std.specs.Prelude.{◌⊎◌}
 use Rattle.std.proofs.lemmas.List.{map-append}
-use Rattle.zed_host.specs.Calls.{Ask, Call, Leads, Writing, call, failed_at, passed}
+use Rattle.zed_host.specs.Calls.{Ask, Call, Writing, call, failed_at, passed}
 use Rattle.zed_host.proofs.Calls.{leads_then, passed_then}
 use Rattle.zed_files.specs.Asked.{Asks, BrokenOff, named, reading, refusal_in}
 use Rattle.zed_files.proofs.Asked.{asks_nothing}
 use Rattle.zed_files.proofs.Failures.{memory_is_other}
-use Rattle.zed_playing.specs.Asking.{AsksBehind, AsksKept, AsksNoMore, AsksPlay, IsLost, Sought, keeping}
+use Rattle.zed_playing.specs.Asking.{AsksBehind, AsksKept, AsksNoMore, AsksPlay, keeping}
 
 -- ---- what comes behind what is kept
 

@@ -1,6 +1,6 @@
 -- How playing a board of edit files ends.
-use Rattle.std.proofs.Common.{◌≡◌, ◌≢◌, ◌∙◌, ◌++◌, ◌≤◌, ℕ, List, Option, Result, Ok, Err, MatchResult, ap, arith, drop, refl, subst, sym, inl, inr}
-use Rattle.std.specs.Prelude.{◌⊎◌, IfErr, IsErrAnd, ⊤, option_map}
+use Rattle.std.proofs.Common.{◌≡◌, ◌≢◌, ◌∙◌, ◌≤◌, ℕ, List, Option, Result, Ok, Err, MatchResult, ap, arith, drop, refl, subst, sym, inl, inr}
+use Rattle.std.specs.Prelude.{◌⊎◌, IfErr, IsErrAnd, ⊤}
 use Rattle.zed_export.specs.declared.error.ExportError.{ExportError}
 use Rattle.zed_op.specs.declared.op.Edit.{Edit}
 use Rattle.zed_world.specs.Contents.{Contents}
@@ -22,7 +22,6 @@ use Rattle.zed_playing.specs.Boards.{IsPerformed, PerformsAny, PlaysFrom, over_s
 use Rattle.zed_turns.specs.Course.{Point, point}
 use Rattle.zed_playing.specs.declared.opening.Going.{Going}
 use Rattle.zed_playing.specs.Opening.{opened, opened_in, over_edits}
-use Rattle.zed_turns.specs.Performing.{Performs, at_start}
 use Rattle.zed_turns.specs.Stage.{Stage, behind_keys}
 
 -- a limit of an export isn't told as a failure of the host

@@ -1,5 +1,5 @@
 -- The exported world.
-use Rattle.std.proofs.Common.{◌≡◌, ℕ, false, Option, Some, None, Ok, Err, ap, sym}
+use Rattle.std.proofs.Common.{◌≡◌, ℕ, false, Option, Some, None, Ok, ap, sym}
 use Rattle.zed_world.specs.Contents.{Contents}
 use Rattle.zed_edit.specs.Replay.{replay}
 use Rattle.zed_document.specs.Replica.{Replica}

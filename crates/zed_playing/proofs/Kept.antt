@@ -16,8 +16,7 @@ use Rattle.zed_turns.specs.Course.{Point}
 use Rattle.zed_turns.specs.Devices.{Chances}
 use Rattle.zed_turns.specs.Record.{spelled_all}
 use Rattle.zed_turns.specs.Stage.{Stage, stage}
-use Rattle.zed_turns.specs.Report.{report_of}
-use Rattle.zed_playing.specs.Ending.{EndsKept, EndsPlay, FailedToKeep, IsPlayed, RefusedBefore, Request, kept_after}
+use Rattle.zed_playing.specs.Ending.{EndsKept, EndsPlay, IsPlayed, Request, kept_after}
 use Rattle.zed_playing.specs.Kept.{HalfKept, HalfRecorded, key_bytes, made_for, with_kept, with_record}
 use Rattle.zed_playing.specs.Led.{Led}
 

@@ -1,18 +1,17 @@
 -- What refuses a taking is one thing, and nothing else is answered then.
-use Rattle.std.proofs.Common.{◌≡◌, ◌⊎◌, inl, inr, ℕ, ◌+◌, ◌<◌, Bool, true, false, List, Option, Some, None, Result, Ok, Err, refl, sym, ap, ◌∙◌, arith}
+use Rattle.std.proofs.Common.{◌≡◌, ◌⊎◌, inl, inr, ℕ, Bool, true, false, List, Option, Some, None, Result, Ok, Err, refl, sym, ap, ◌∙◌, arith}
 use Rattle.std.specs.Global.{Vec}
-use Rattle.std.specs.Prelude.{nat_lt, IfErr, IfOk, OnOk}
+use Rattle.std.specs.Prelude.{IfErr, IfOk, OnOk}
 use Rattle.zed_types.specs.declared.stamp.Stamp.{Stamp}
 use Rattle.zed_world.specs.Contents.{Contents}
-use Rattle.zed_world.specs.Writing.{HasText, first_over}
+use Rattle.zed_world.specs.Writing.{HasText}
 use Rattle.zed_world.specs.declared.error.WorldError.{WorldError}
 use Rattle.zed_world.specs.declared.error.WorldError.TheVariants as world
 use Rattle.zed_op.specs.declared.op.Edit.{Edit}
-use Rattle.zed_edit.specs.Replay.{replay}
-use Rattle.zed_history.specs.Clock.{is_spent, next_time}
+use Rattle.zed_history.specs.Clock.{is_spent}
 use Rattle.zed_document.specs.Replica.{Replica}
 use Rattle.zed_export.specs.declared.error.ExportError.{ExportError}
-use Rattle.zed_export.specs.Limits.{IsRefusal, refusal_of}
+use Rattle.zed_export.specs.Limits.{IsRefusal}
 use Rattle.zed_take.specs.Refusals.{CanBegin, IsBase, IsLate, IsOver, IsOverFirst, IsRefused, IsWithin, is_out_of_time}
 use Rattle.zed_take.specs.Taken.{AreTaken, Joins, next_stamp}
 use Rattle.zed_take.proofs.Deliveries.{next_join}

@@ -1,5 +1,5 @@
 -- When edits show a world, seen from the files of both.
-use Rattle.std.proofs.Common.{◌≡◌, ◌⊎◌, inl, inr, ◌≤◌, arith, List, ℕ, Option, Some, None, Result, Ok, Err, refl, ap, sym, ◌∙◌, subst}
+use Rattle.std.proofs.Common.{◌≡◌, inl, inr, arith, List, ℕ, Option, Some, None, Result, Ok, Err, refl, ap, sym, ◌∙◌}
 use Rattle.std.specs.Prelude.{◌≢◌}
 use Rattle.zed_world.specs.Contents.{Contents}
 use Rattle.zed_world.specs.Reading.{world_at}
@@ -10,15 +10,13 @@ use Rattle.zed_export.specs.declared.error.ExportError.{ExportError}
 use Rattle.zed_export.specs.Limits.{exported, refusal_of, saved, unless_over}
 use Rattle.zed_export.specs.World.{world_of}
 use Rattle.zed_export.specs.Headline.{AreAuthored, AuthoredIsRead}
-use Rattle.zed_types.specs.declared.stamp.Stamp.{Stamp}
 use Rattle.zed_op.specs.declared.op.Edit.{Edit}
-use Rattle.zed_op.specs.Set.{AllFit, IsRising, set_of}
+use Rattle.zed_op.specs.Set.{set_of}
 use Rattle.zed_op.specs.SetLaws.{RisingAgrees, RisingIsItsSet}
-use Rattle.zed_op.specs.Sizes.{HaveSizes}
 use Rattle.zed_edit.specs.Replay.{replay}
 use Rattle.zed_take.specs.Laws.{NothingIsTakenUnchanged}
 use Rattle.zed_take.specs.Refusals.{IsLate, of_plan}
-use Rattle.zed_take.specs.Taken.{AreTaken, Shows}
+use Rattle.zed_take.specs.Taken.{Shows}
 use Rattle.zed_take.specs.declared.plan_error.PlanError.{PlanError}
 use Rattle.zed_take.specs.declared.plan_error.PlanError.TheVariants as plan
 

@@ -1,26 +1,25 @@
 -- A register that edits behind all others don't write is as it was.
-use Rattle.std.proofs.Common.{◌≡◌, ℕ, ◌+◌, ◌<◌, Bool, true, false, cond, List, [], ◌∷◌, ◌++◌, Option, Some, None, refl, ap, sym, ◌∙◌, append-nil, arith}
+use Rattle.std.proofs.Common.{◌≡◌, Bool, true, false, cond, List, [], ◌∷◌, ◌++◌, Option, None, refl, ap, sym, ◌∙◌, append-nil, arith}
 use Rattle.std.specs.Prelude.{option_map}
-use Rattle.std.specs.List.{AllByRecursion, filter_map}
+use Rattle.std.specs.List.{AllByRecursion}
 use Rattle.std.proofs.lemmas.List.Elements.{filter_map-append}
 use Rattle.zed_types.specs.declared.stamp.Stamp.{Stamp}
-use Rattle.zed_types.specs.declared.written.Written.{Written}
 use Rattle.zed_types.specs.Stamp.{before, same_stamp}
 use Rattle.zed_types.specs.Register.{latest_of, written_at}
 use Rattle.zed_types.proofs.StampOrder.{before_asym, before_differs_after}
 use Rattle.zed_op.specs.declared.op.Edit.{Edit}
-use Rattle.zed_op.specs.Set.{IsRising, union, with_edit}
-use Rattle.zed_op.specs.Sizes.{HasSizes, HaveSizes}
+use Rattle.zed_op.specs.Set.{union, with_edit}
+use Rattle.zed_op.specs.Sizes.{HaveSizes}
 use Rattle.zed_op.proofs.Sets.{union-rising}
 use Rattle.zed_edit.specs.declared.plain.Plain.{Plain}
 use Rattle.zed_edit.specs.Document.{empty_document}
-use Rattle.zed_edit.specs.Replay.{can, replay, replay_on, step, taken, taken_on}
+use Rattle.zed_edit.specs.Replay.{can, replay, step, taken, taken_on}
 use Rattle.zed_history.specs.Finding.{AllBelow}
 use Rattle.zed_history.proofs.Times.{later-all}
 use Rattle.zed_laws.specs.Registers.{writes_of}
 use Rattle.zed_laws.specs.Winners.{GreatestStampWins, Register, latest_or}
 use Rattle.zed_laws.proofs.ReplaySteps.{taken_on-append}
-use Rattle.zed_take.specs.Others.{StaysUnwritten, WriteNone}
+use Rattle.zed_take.specs.Others.{StaysUnwritten}
 use Rattle.zed_take.specs.Taken.{AreFrom, later, next_stamp}
 use Rattle.zed_take.proofs.Deliveries.{below_with}
 

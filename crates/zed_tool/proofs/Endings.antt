@@ -33,8 +33,6 @@ use Rattle.zed_drawing.specs.Asked.{Did}
 use Rattle.zed_drawing.specs.Base.{base_word, presence_of}
 use Rattle.zed_drawing.specs.Opening.{ComesToOpen, OpenReads}
 use Rattle.zed_drawing.specs.Taking.{ComesToTake, TakeReads}
-use Rattle.zed_turns.specs.Course.{Point}
-use Rattle.zed_playing.specs.Asking.{AsksPlay}
 use Rattle.zed_playing.specs.Ending.{EndsPlay, IsPlayed, Request, request, told_after}
 use Rattle.zed_playing.specs.Led.{Led}
 use Rattle.zed_playing.proofs.Kept.{played_so}

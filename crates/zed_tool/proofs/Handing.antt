@@ -18,7 +18,7 @@ use Rattle.zed_set_words.specs.Rows.{wish_of}
 use Rattle.std.proofs.Common.{◌≡◌, ◌≤◌, ◌∙◌, ℕ, arith, List, [], ◌∷◌, Option, Some, Result, Ok, Err, ap, refl, subst, sym}
 use Rattle.std.specs.Prelude.{⊤}
 use Rattle.zed_tool_words.specs.declared.asked.Strictness.{Strictness}
-use Rattle.zed_tool.specs.Answers.{Answer, Failure, Handed, Refused, drawing_failure, drawn_as, file_failed, linted_as, set_as, told_as, wrong_word}
+use Rattle.zed_tool.specs.Answers.{Answer, Handed, Refused, drawing_failure, drawn_as, file_failed, linted_as, set_as, told_as, wrong_word}
 use Rattle.zed_tool.specs.Commands.{AsksSet, EndsSet}
 use Rattle.zed_tool.specs.Outcome.{TellsFailures}
 

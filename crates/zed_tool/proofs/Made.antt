@@ -1,6 +1,6 @@
 -- The calls of a run.
 use Rattle.zed_drawing.specs.declared.error.DrawingError.{DrawingError}
-use Rattle.std.proofs.Common.{◌≤◌, ℕ, true, false, List, [], ◌∷◌, ◌++◌, Option, Some, None, Result, Ok, Err, arith, inl, inr, refl}
+use Rattle.std.proofs.Common.{◌≤◌, ℕ, true, false, List, [], ◌∷◌, ◌++◌, Option, Some, None, Result, Ok, Err, arith, inl, inr}
 use Rattle.std.specs.Prelude.{⊤}
 use Rattle.clap.specs.Walk.{Text}
 use Rattle.zed_host.specs.Calls.{Ask, Call, Complaining, Leads, Printing, Reading, call, passed}
@@ -8,7 +8,6 @@ use Rattle.zed_host.specs.Counting.{NothingFailed}
 use Rattle.zed_host.proofs.Calls.{CountsFailures, CountsNoFault, calm_calls, leads_one, leads_then}
 use Rattle.zed_drawing.specs.Asked.{Asks, writing}
 use Rattle.zed_files.specs.declared.refusal.Refusal.{Refusal}
-use Rattle.zed_files.specs.Asked.{Asks as AsksFiles, reading}
 use Rattle.zed_playing.specs.Asking.{AsksPlay, IsLost, Sought}
 use Rattle.zed_playing.specs.Led.{Led}
 use Rattle.zed_tool_words.specs.Commands.{Command, Open, Take, Log, Lists, Show, Play, Lint, Set, ProgramOf, SetProgram, command_of}

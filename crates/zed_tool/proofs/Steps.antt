@@ -15,7 +15,7 @@ use Rattle.zed_host.proofs.ReadFiles.{read_so}
 use Rattle.zed_files.specs.declared.refusal.Refusal.{Refusal}
 use Rattle.zed_files.specs.Effects.{Effect as Told}
 use Rattle.zed_files.proofs.Endings.{collected_so}
-use Rattle.zed_programs.specs.Setting.{ComesToSet as ComesToSetProgram, IsSpelled, Sets, SetsIn, SetsText}
+use Rattle.zed_programs.specs.Setting.{ComesToSet as ComesToSetProgram, IsSpelled, SetsText}
 use Rattle.zed_set.specs.Setting.{ComesToSet, IsSet}
 use Rattle.zed_set_words.specs.declared.wishes.Wish.{Wish}
 use Rattle.zed_look.specs.declared.form.Form.{Form}

@@ -1,6 +1,6 @@
 -- The lines that the program writes where a command was not carried out.
 use Rattle.zed_set_words.specs.Texts.{text_of}
-use Rattle.std.specs.Prelude.{ℕ, Bool, true, false, List, [], ◌∷◌, ◌++◌, Some, None, codes}
+use Rattle.std.specs.Prelude.{ℕ, Bool, true, false, List, ◌∷◌, ◌++◌, Some, None, codes}
 use Rattle.std.specs.Fmt.{decimal}
 use Rattle.zed_files.specs.Lines.{ended, has_numbers, refusal_name}
 use Rattle.zed_tool.specs.Answers.{Failure, Refused, NotTaken, BadWord, BadText}

@@ -1,5 +1,5 @@
 -- What was played is played again by the keys and words that were kept.
-use Rattle.std.proofs.Common.{◌≡◌, ◌∙◌, ◌+◌, ◌-◌, ◌++◌, ℕ, zero, suc, List, [], ◌∷◌, Option, Some, Ok, ap, append-nil, append_assoc, arith, drop, length, length-append, refl, subst, sym}
+use Rattle.std.proofs.Common.{◌≡◌, ◌∙◌, ◌+◌, ◌-◌, ◌++◌, ℕ, zero, suc, List, [], ◌∷◌, Option, Some, Ok, ap, append-nil, append_assoc, arith, drop, length, length-append, subst, sym}
 use Rattle.std.proofs.Math.Seq.{drop-append_seam}
 use Rattle.zed_world.specs.Contents.{Contents}
 use Rattle.zed_play.proofs.Front.{front_step}
@@ -9,7 +9,7 @@ use Rattle.zed_play.specs.Step.{Step, Steps}
 use Rattle.zed_staging.specs.declared.input.Input.{Input}
 use Rattle.zed_staging.specs.declared.input.Input.TheVariants.{Pressed, Resized}
 use Rattle.zed_turns.specs.Again.{Comes, PlaysAgain}
-use Rattle.zed_turns.specs.Course.{Answers, Course, Plays, Point, led_on}
+use Rattle.zed_turns.specs.Course.{Answers, Course, Point, led_on}
 use Rattle.zed_turns.specs.Devices.{Chances}
 
 -- a step isn't changed by words behind those that it had, and leaves them too

@@ -1,12 +1,12 @@
 -- What was performed comes again of what is kept of it.
-use Rattle.std.proofs.Common.{◌≡◌, ◌∙◌, ◌++◌, ℕ, false, List, Option, Result, Ok, Err, ap, inl, inr, subst, sym}
+use Rattle.std.proofs.Common.{◌≡◌, ◌∙◌, ℕ, List, Option, Result, Ok, Err, ap, inl, inr, subst, sym}
 use Rattle.std.specs.Prelude.{⊤}
 use Rattle.zed_world.specs.Contents.{Contents}
 use Rattle.zed_play.specs.Playtest.{Playtest}
 use Rattle.zed_turns.specs.declared.error.TurnError.{TurnError}
 use Rattle.zed_turns.specs.Again.{Comes}
 use Rattle.zed_turns.specs.Course.{Course, Plays, PlaysOn, Point, course}
-use Rattle.zed_turns.specs.Performing.{Performs, PerformancesComeAgain, at_start, played_to}
+use Rattle.zed_turns.specs.Performing.{PerformancesComeAgain, at_start, played_to}
 use Rattle.zed_turns.specs.Stage.{Stage}
 use Rattle.zed_turns.proofs.Again.{plays_again}
 

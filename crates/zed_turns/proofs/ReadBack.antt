@@ -1,8 +1,7 @@
 -- What is kept of a playtest is read back.
-use Rattle.std.proofs.Common.{◌≡◌, ◌∙◌, ◌+◌, ◌*◌, ◌/◌, ◌%◌, ◌<◌, ◌≤◌, ◌++◌, ℕ, List, [], ◌∷◌, ap, ap₂, arith, drop, length, refl, slice_index, take}
-use Rattle.zed_play.specs.declared.key.Key.{Key}
+use Rattle.std.proofs.Common.{◌≡◌, ◌+◌, ◌*◌, ◌/◌, ◌%◌, ◌<◌, ◌≤◌, ℕ, List, [], ◌∷◌, ap, ap₂, arith, drop, length, refl, slice_index, take}
 use Rattle.zed_play.specs.declared.key.Key.TheVariants.{Wait, North, South, West, East, ShootNorth, ShootSouth, ShootWest, ShootEast}
-use Rattle.zed_turns.specs.Record.{KeysAreReadBack, WordsAreReadBack, keys_in, letters_of, spelled_all, words_in}
+use Rattle.zed_turns.specs.Record.{KeysAreReadBack, WordsAreReadBack, words_in}
 
 pub keys_back : KeysAreReadBack
 keys_back [] = refl

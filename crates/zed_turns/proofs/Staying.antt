@@ -1,5 +1,5 @@
 -- What is played of one board is played over boards too, until the player leaves it.
-use Rattle.std.proofs.Common.{◌≡◌, ◌∙◌, ℕ, zero, suc, Bool, false, List, Option, Some, None, Result, Ok, Err, inl, inr, refl, subst, sym}
+use Rattle.std.proofs.Common.{◌≡◌, ◌∙◌, ℕ, zero, suc, Bool, false, Option, Some, None, Result, Ok, Err, inl, inr, refl, subst, sym}
 use Rattle.std.specs.Prelude.{⊤}
 use Rattle.zed_world.specs.Contents.{Contents}
 use Rattle.zed_play.specs.declared.ending.Ending.{Ending}

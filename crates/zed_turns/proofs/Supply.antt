@@ -1,10 +1,9 @@
 -- Words of chance that come one after the other.
-use Rattle.std.proofs.Common.{◌≡◌, ◌∙◌, ◌+◌, ◌++◌, ◌≤◌, ℕ, zero, suc, List, [], ◌∷◌, Option, Some, None, Ok, Err, ap, append-nil, append_assoc, arith, drop, length, refl, subst, sym}
+use Rattle.std.proofs.Common.{◌≡◌, ◌∙◌, ◌+◌, ◌++◌, ◌≤◌, ℕ, zero, suc, List, [], ◌∷◌, Option, Some, None, Ok, Err, ap, append_assoc, arith, drop, length, refl, subst, sym}
 use Rattle.std.specs.Prelude.{⊤, option_map}
 use Rattle.std.proofs.lemmas.List.{drop-append-le}
 use Rattle.zed_host.specs.Counting.{Counts, Rose}
 use Rattle.zed_play.specs.declared.key.Key.{Key}
-use Rattle.zed_play.specs.Playtest.{Playtest}
 use Rattle.zed_play.specs.Step.{Steps}
 use Rattle.zed_turns.specs.declared.error.TurnError.{TurnError}
 use Rattle.zed_turns.specs.declared.error.TurnError.TheVariants.{NoWords}

@@ -1,5 +1,5 @@
 -- Turns made one after the other.
-use Rattle.std.proofs.Common.{◌≡◌, ◌+◌, ℕ, zero, suc, Bool, true, false, Option, None, Ok, arith, refl, subst, sym}
+use Rattle.std.proofs.Common.{◌≡◌, ◌+◌, ℕ, zero, suc, Bool, true, false, Option, None, Ok, arith, refl, subst}
 use Rattle.zed_world.specs.Contents.{Contents}
 use Rattle.zed_turns.specs.Course.{Advances, Course, Plays, Turns}
 

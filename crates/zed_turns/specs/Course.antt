@@ -1,5 +1,5 @@
 -- How a playtest goes on, turn by turn.
-use Rattle.std.specs.Prelude.{◌≡◌, ◌⊎◌, ◌≤◌, ◌<◌, ℕ, zero, suc, Bool, true, false, List, [], ◌∷◌, ◌++◌, drop, length, Option, Some, None, is_some, Result, Ok, Err, ⊤}
+use Rattle.std.specs.Prelude.{◌≡◌, ◌⊎◌, ◌≤◌, ℕ, zero, suc, Bool, true, false, List, [], ◌∷◌, ◌++◌, drop, length, Option, Some, None, is_some, Result, Ok, Err, ⊤}
 use Rattle.zed_world.specs.Contents.{Contents}
 use Rattle.zed_play.specs.declared.ending.Ending.{Ending}
 use Rattle.zed_play.specs.declared.ending.Ending.TheVariants.{Left}

@@ -1,5 +1,5 @@
 -- Two edits, one after the other.
-use Rattle.std.proofs.Common.{◌≡◌, ◌∙◌, ◌<◌, length, List, Result, Ok, Err, ℕ, refl, ap, sym, subst, MatchResult, inl, inr}
+use Rattle.std.proofs.Common.{◌≡◌, ◌∙◌, ◌<◌, length, List, Result, Ok, Err, ℕ, refl, ap, sym, subst, inl, inr}
 use Rattle.std.specs.Prelude.{◌⊎◌, ⊤, Bool, OnErr}
 use Rattle.zed_op.specs.declared.op.Op.{Op}
 use Rattle.zed_op.specs.declared.op.Edit.{Edit}

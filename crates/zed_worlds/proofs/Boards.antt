@@ -5,7 +5,7 @@ use Rattle.zed_session.specs.declared.error.SessionError.TheVariants as session
 use Rattle.zed_world.specs.declared.header.Header.{Header}
 use Rattle.zed_world.specs.declared.board.BoardData.{BoardData}
 use Rattle.zed_files.specs.declared.refusal.Refusal.{Refusal}
-use Rattle.std.proofs.Common.{◌≡◌, ◌∙◌, ℕ, Option, Some, None, Result, Ok, Err, ap, sym}
+use Rattle.std.proofs.Common.{◌≡◌, ℕ, Option, Some, None, Result, Ok, Err, ap}
 use Rattle.std.specs.Prelude.{slice_get}
 use Rattle.zed_world.specs.Contents.{Contents}
 use Rattle.zed_session.specs.Boards.{Answers, BoardOf, OfBoard as InSession}

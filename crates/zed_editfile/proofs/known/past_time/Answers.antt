@@ -1,4 +1,4 @@
-use Rattle.std.proofs.Common.{◌≡◌, ◌<◌, ◌≤◌, ◌^◌, ◌∙◌, sym, arith, rules, drop, length}
+use Rattle.std.proofs.Common.{◌≡◌, ◌<◌, ◌≤◌, ◌^◌, ◌∙◌, arith, rules, drop, length}
 use Rattle.byteorder.specs.Endian.{little_number}
 use Rattle.zed_editfile.proofs.Passing.{number_there, number_other}
 use Rattle.zed_editfile.proofs.known.past_time.Goals as goal

@@ -1,8 +1,5 @@
-use Rattle.std.proofs.Common.{◌≡◌, ◌++◌, ◌∷◌, List, ℕ, sym, subst}
-use Rattle.std.specs.Prelude.{IfSome}
-use Rattle.zed_op.specs.declared.op.Edit.{Edit}
+use Rattle.std.proofs.Common.{◌≡◌, subst}
 use Rattle.zed_document.specs.Replica.{Replica}
-use Rattle.zed_link.specs.Pieces.{IsPassed}
 use Rattle.zed_link.proofs.Feeding.{edit_there, joins_there, known_comes}
 use Rattle.zed_link.proofs.receiving.pass_known.Goals as goal
 

@@ -1,6 +1,5 @@
-use Rattle.std.proofs.Common.{◌≡◌, rules, arith, refl, sym, subst, false}
+use Rattle.std.proofs.Common.{arith, refl, sym, subst}
 use Rattle.zed_document.specs.Replica.{Replica}
-use Rattle.zed_link.specs.Pieces.{IsPassed}
 use Rattle.zed_link.proofs.Feeding.{Taking, nothing_taken, one_passed, more_taken, record_refused, room, room_one}
 use Rattle.zed_link.proofs.receiving.take_piece.Goals as goal
 

@@ -1,16 +1,13 @@
 use Rattle.std.proofs.Common.{◌≡◌, ◌∙◌, None, Ok, Err, Some, ap, inl, inr, refl, subst}
 use Rattle.std.proofs.lemmas.Result.{err_from_is_err_and}
-use Rattle.zed_host.proofs.Counts.{rose_before, rose_later}
-use Rattle.zed_files.specs.declared.refusal.Refusal.TheVariants.{Memory}
+use Rattle.zed_host.proofs.Counts.{rose_later}
 use Rattle.zed_files.specs.Asked.{reading}
 use Rattle.zed_files.specs.Texts.{text_in, texts_of}
 use Rattle.zed_files.proofs.Asked.{refused_after, refused_at, then_last}
 use Rattle.zed_files.proofs.Failures.{handed_later, handed_on, memory_is_other, memory_on, none_later}
-use Rattle.zed_files.proofs.OffStage.{keys_uncounted, memory_off, off_on, screen_uncounted, unread_off}
 use Rattle.zed_turns.specs.Course.{point}
 use Rattle.zed_turns.specs.Devices.{chances}
 use Rattle.zed_turns.specs.Stage.{stage}
-use Rattle.zed_playing.specs.Asking.{keeping}
 use Rattle.zed_playing.specs.Kept.{HalfRecorded, with_record}
 use Rattle.zed_host.specs.HostContents.{StillTells}
 use Rattle.zed_playing.proofs.Asking.{play_lost, play_on}

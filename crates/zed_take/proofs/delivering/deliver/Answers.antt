@@ -1,4 +1,4 @@
-use Rattle.std.proofs.Common.{◌≡◌, inl, inr}
+use Rattle.std.proofs.Common.{inl, inr}
 use Rattle.zed_take.proofs.Deliveries.{all_joined, comes_out}
 use Rattle.zed_take.proofs.delivering.deliver.Goals as goal
 

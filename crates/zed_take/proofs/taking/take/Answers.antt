@@ -1,4 +1,4 @@
-use Rattle.std.proofs.Common.{true, false, ap, Err, inl, inr, refl}
+use Rattle.std.proofs.Common.{true, false, ap, Err, inl, refl}
 use Rattle.zed_take.proofs.Refused.{came, out_of_time, settled, spent, takes_join}
 use Rattle.zed_take.proofs.taking.take.Goals as goal
 

@@ -1,4 +1,4 @@
-use Rattle.std.proofs.Common.{rules, ◌≡◌, ◌∙◌, true, sym}
+use Rattle.std.proofs.Common.{◌≡◌, ◌∙◌, true, sym}
 use Rattle.zed_types.proofs.Facts.{none_is}
 use Rattle.zed_turns.proofs.Turning.{one_more}
 use Rattle.zed_turns.proofs.turns.play_on.Goals as goal

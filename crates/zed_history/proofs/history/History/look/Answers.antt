@@ -1,4 +1,4 @@
-use Rattle.std.proofs.Common.{◌≡◌, ◌∙◌, ◌++◌, ◌∷◌, [], None, rules}
+use Rattle.std.proofs.Common.{◌≡◌, None, rules}
 use Rattle.zed_op.specs.Set.{IsRising}
 use Rattle.zed_history.specs.Finding.{edit_with}
 use Rattle.zed_history.specs.Runs.{found_in}

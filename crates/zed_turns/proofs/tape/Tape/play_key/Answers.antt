@@ -1,4 +1,4 @@
-use Rattle.std.proofs.Common.{◌≡◌, ◌∙◌, ◌++◌, [], ◌∷◌, ap, drop}
+use Rattle.std.proofs.Common.{◌∙◌, ◌++◌, [], ◌∷◌, ap, drop}
 use Rattle.zed_turns.specs.Course.{on_by, point}
 use Rattle.zed_turns.proofs.tape.Tape.play_key.Goals as goal
 

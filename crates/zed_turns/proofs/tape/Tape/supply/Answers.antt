@@ -1,4 +1,4 @@
-use Rattle.std.proofs.Common.{◌≡◌, ◌∙◌, ◌*◌, ◌+◌, ◌++◌, [], Ok, ap, append-nil, append_assoc, arith, inl, inr, length, length-append, refl, sym}
+use Rattle.std.proofs.Common.{◌≡◌, ◌∙◌, ◌*◌, ◌+◌, ◌++◌, [], Ok, ap, append-nil, arith, inl, inr, length, length-append, refl, sym}
 use Rattle.std.proofs.lemmas.Result.{err_from_is_err_and}
 use Rattle.std.specs.Prelude.{option_map}
 use Rattle.zed_turns.proofs.Supply.{brings_more, brings_none, lacks_here, makes_here, one_more, rose_at}
