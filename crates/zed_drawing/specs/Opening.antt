@@ -121,7 +121,7 @@ ShownReads held forcing shown file world reads =
     (reads ≡ [])
     ⊎ ((text : List ℕ) × IsExported shown (Ok text) × LookReads (NeedsBase held shown world) forcing file (beside world) world reads)
 
--- what is read at most of a host that holds this: FILE; and if it has edits, what is needed for those up to the time
+-- what is read at most of a host that holds this: FILE; and if that is an edit file, what is needed for its edits up to the time
 abbrev pub NeededReads : HostContents → Option ℕ → Forcing → List ℕ → List ℕ → List Call → Type 0
 NeededReads t until forcing file world reads =
     (more : List Call) × (reads ≡ call (Reading file) false ∷ more)

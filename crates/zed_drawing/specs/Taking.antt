@@ -128,7 +128,7 @@ TakeWrites base file names =
     (names ≡ []) ⊎ (names ≡ file ∷ [])
     ⊎ ((bytes_eq base file ≡ false) × ((names ≡ base ∷ []) ⊎ (names ≡ base ∷ file ∷ [])))
 
--- memory may be wanted of an author: where the base is named, only if FILE is there; where it isn't, its name wants some first
+-- memory may be wanted only for an author's number; if the base is named, only if FILE is there
 abbrev pub MayWantMemory : HostContents → Option (List ℕ) → ℕ → List ℕ → Type 0
 MayWantMemory t None replica file = replica ≢ 0
 MayWantMemory t (Some base) replica file = (replica ≢ 0) × (is_some (file_in t file) ≡ true)

@@ -117,7 +117,7 @@ AsksSet called file words (Ok wish) answer old new =
     Handed told_as (λ r. AsksFiles called (reading (file ∷ [])) (writing file) (refusal_in r) old new) answer
 AsksSet called file words (Err bad) answer old new = (answer ≡ Err (wrong_word words bad)) × (new ≡ old)
 
--- so a command ends, with this in its host, where devices are led so
+-- so a command ends, with this in its host, where devices are led so; of `open` also which files are read and written
 abbrev pub EndsCommand : {H : Type 0} → (H → Call → H → Type 0) → Type 0 → Led → Command → H → H → HostContents → Answer → Option HostContents → Type 0
 EndsCommand called failed moved (Open until forcing file world) old new t answer left =
     Handed (drawn_as file) (λ r. Ends failed (ComesToOpen failed t until (forcing_of forcing) file world)
