@@ -11,7 +11,7 @@ use Rattle.zed_editfile.specs.declared.error.EditFileError.{EditFileError}
 use Rattle.zed_editfile.specs.declared.error.EditFileError.TheVariants.{Memory, RecordLength}
 use Rattle.zed_editfile.specs.Spelling.{number, record_text, AreOf}
 use Rattle.zed_editfile.specs.Reading.{edit_at, SpellsString}
-use Rattle.zed_editfile.specs.Stream.{Stop, waits, fails, is_length, fault_of, body_at, record_stop, AreRecords, Frames, Gains, HasLength, MayWantMemory, MayWantMemoryBehind}
+use Rattle.zed_editfile.specs.Stream.{Stop, waits, fails, is_length, fault_of, body_at, record_stop, AreRecords, Frames, Gains, HasLength, IsLong, MayWantMemory, MayWantMemoryBehind}
 use Rattle.zed_editfile.proofs.Numbers.{IsBytes, IsBytes-front, IsBytes-behind, length_number, number_is, number_back}
 use Rattle.zed_editfile.proofs.Edits.{edit_takes}
 
@@ -152,6 +152,13 @@ second_true : (a b : Bool) → (a && b) ≡ true → b ≡ true
 second_true true b h = h
 second_true false b h = absurd cc
 
+first_true : (a b : Bool) → (a && b) ≡ true → a ≡ true
+first_true true b h = refl
+first_true false b h = absurd cc
+
+length_above : (n : ℕ) → is_length n ≡ true → 9 ≤ n
+length_above n h = leb-true 9 n (first_true (leb 9 n) (leb n 4194304) h)
+
 length_below : (n : ℕ) → is_length n ≡ true → n < 256 ^ 4
 length_below n h = let le : n ≤ 4194304 = leb-true n 4194304 (second_true (leb 9 n) (leb n 4194304) h) in omega arith
 
@@ -244,12 +251,19 @@ framed b rest body after n fits h r long e f =
 pub frame_after : (b body after : List ℕ) → Frames b body after → after ≡ drop (little_number 4 b) (drop 4 b)
 frame_after b body after f = sym (ap (λ (k : ℕ). drop k (drop 4 b)) (frame_number b body after f) ∙ ap (drop (length body)) (frame_behind b body after f) ∙ drop_at body after (length body) refl)
 
+-- a whole record is longer than what is kept without memory
+frame_past : (b body after : List ℕ) → Frames b body after → 12 < length b
+frame_past b body after f =
+    let len : length b ≡ length (number 4 (length body)) + length (body ++ after) =
+    ap length f.parts ∙ length-append (number 4 (length body)) (body ++ after) in
+    omega (arith, len, length_number 4 (length body), length-append body after, length_above (length body) f.long)
+
 -- memory may be wanted for what a whole record spells
 frame_wants : (v : ℕ) (b body after : List ℕ) → Frames b body after → IsOk (edit_at v body) ⊎ SpellsString v body → MayWantMemory v b
 frame_wants v b body after f w =
     let whole = frame_whole b body after f in
     let P : List ℕ → Type 0 = λ t. IsOk (edit_at v t) ⊎ SpellsString v t in
-    ((whole.long, whole.good), inr (subst P (sym (frame_body b body after f)) w))
+    (((whole.long, whole.good), frame_past b body after f), inr (subst P (sym (frame_body b body after f)) w))
 
 pub frame_fault : (v : ℕ) (b body after : List ℕ) (e : EditFileError) → Frames b body after
     → ((e ≡ Memory) × SpellsString v body) ⊎ (edit_at v body ≡ Err e)
@@ -265,8 +279,8 @@ pub frame_edit : (v : ℕ) (b body after : List ℕ) (e : Edit) → Frames b bod
 frame_edit v b body after e f h = frame_wants v b body after f (inl (is_ok (edit_at v body) e h))
 
 -- a record that waits with more than its length is cut
-pub waits_wants : (v : ℕ) (b : List ℕ) → record_stop v b ≡ waits b → 4 ≤ length b → MayWantMemory v b
-waits_wants v b stop le = elim (waits_is v b b stop).1 [ inl short ↦ absurd (omega arith) | inr cut ↦ ((cut.long, cut.good), inl cut.cut) ]
+pub waits_wants : (v : ℕ) (b : List ℕ) → record_stop v b ≡ waits b → 12 < length b → MayWantMemory v b
+waits_wants v b stop past = elim (waits_is v b b stop).1 [ inl short ↦ absurd (omega arith) | inr cut ↦ (((cut.long, cut.good), past), inl cut.cut) ]
 
 -- a good length stays, whatever follows
 pub length_stays : (k l : List ℕ) → HasLength k → HasLength (k ++ l)
@@ -276,17 +290,22 @@ pub length_on : (total k l : List ℕ) → k ++ l ≡ total → HasLength k → 
 length_on total k l whole h = subst HasLength whole (length_stays k l h)
 
 pub behind_length : (v : ℕ) (kept bytes tail : List ℕ) → MayWantMemoryBehind v kept bytes tail → HasLength tail
-behind_length v kept bytes tail h = elim h [ inl began ↦ began.2 | inr wants ↦ wants.0 ]
+behind_length v kept bytes tail h = elim h [ inl began ↦ began.2.0 | inr wants ↦ wants.0.0 ]
+
+pub long_on : (total k l : List ℕ) → k ++ l ≡ total → IsLong k → IsLong total
+long_on total k l whole h =
+    let longer : length total ≡ length k + length l = sym (ap length whole) ∙ length-append k l in
+    (length_on total k l whole h.0, omega (arith, h.1, longer))
 
 -- a fault of the front is one of the whole
 pub fault_on : (v : ℕ) (total k l old : List ℕ) (e : EditFileError) → k ++ l ≡ total → 0 < length old
     → ((e ≡ Memory) × MayWantMemory v k) ⊎ (record_stop v k ≡ fails e)
-    → ((e ≡ Memory) × (0 < length old) × HasLength total) ⊎ (record_stop v total ≡ fails e)
-fault_on v total k l old e whole some h = elim h [ inl m ↦ inl (m.0, some, length_on total k l whole m.1.0) | inr r ↦ inr (ap (record_stop v) (sym whole) ∙ fault_stays v k l e r) ]
+    → ((e ≡ Memory) × (0 < length old) × IsLong total) ⊎ (record_stop v total ≡ fails e)
+fault_on v total k l old e whole some h = elim h [ inl m ↦ inl (m.0, some, long_on total k l whole m.1.0) | inr r ↦ inr (ap (record_stop v) (sym whole) ∙ fault_stays v k l e r) ]
 
 -- the same of a record that began in earlier pieces
 pub began_fault : (v : ℕ) (kept total : List ℕ) (e : EditFileError)
-    → ((e ≡ Memory) × (0 < length kept) × HasLength total) ⊎ (record_stop v total ≡ fails e)
+    → ((e ≡ Memory) × (0 < length kept) × IsLong total) ⊎ (record_stop v total ≡ fails e)
     → ((e ≡ Memory) × MayWantMemoryBehind v kept total total) ⊎ (record_stop v total ≡ fails e)
 began_fault v kept total e h = elim h [ inl m ↦ inl (m.0, inl (m.1, refl, m.2)) | inr r ↦ inr r ]
 

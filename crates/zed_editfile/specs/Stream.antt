@@ -101,20 +101,24 @@ pub record IsTextOf (world : ℕ) (es : List Edit) (bytes : List ℕ) : Type 0 w
 abbrev pub HasLength : List ℕ → Type 0
 HasLength bytes = (4 ≤ length bytes) × (is_length (little_number 4 bytes) ≡ true)
 
+-- the same of more bytes than those of a head, which are kept without memory
+abbrev pub IsLong : List ℕ → Type 0
+IsLong bytes = HasLength bytes × (12 < length bytes)
+
 -- the bytes behind the length are fewer than it says
 abbrev pub IsCutShort : List ℕ → Type 0
 IsCutShort bytes = length (drop 4 bytes) < little_number 4 bytes
 
--- The record at the front of the bytes may want memory: it has a good length, and it is cut, so that its bytes are to be kept; or it spells an edit;
+-- The record at the front of the bytes may want memory: it has a good length, more than 12 bytes are there, and it is cut, so that its bytes are to be kept; or it spells an edit;
 -- or what is wrong with that is seen behind a string. So memory never runs out in place of a bad length, a field that is cut, a wrong op or a wrong tag.
 abbrev pub MayWantMemory : ℕ → List ℕ → Type 0
 MayWantMemory version bytes =
-    HasLength bytes × (IsCutShort bytes ⊎ (IsOk (edit_at version (body_at bytes)) ⊎ SpellsString version (body_at bytes)))
+    IsLong bytes × (IsCutShort bytes ⊎ (IsOk (edit_at version (body_at bytes)) ⊎ SpellsString version (body_at bytes)))
 
 -- the same of the tail of some bytes of which the first were kept of earlier pieces; a record that began in these is kept until it is whole
 abbrev pub MayWantMemoryBehind : ℕ → List ℕ → List ℕ → List ℕ → Type 0
 MayWantMemoryBehind version kept bytes tail =
-    ((0 < length kept) × (tail ≡ bytes) × HasLength tail) ⊎ MayWantMemory version tail
+    ((0 < length kept) × (tail ≡ bytes) × IsLong tail) ⊎ MayWantMemory version tail
 
 -- ---- the reader
 

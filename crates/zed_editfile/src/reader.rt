@@ -63,11 +63,12 @@ impl EditReader {
     /// `OtherWorld` at the last byte of a head with another number than the one asked for,
     /// `RecordLength` at the fourth byte of a length below 9 or above 4,194,304, `BadEdit` at the
     /// end of a record that spells no edit that fits. `Memory` comes if a growth was refused, and
-    /// only after the good length of a record of which no edit was read: so it never comes in the
-    /// head, nor in place of `RecordLength`. If the record began in this piece, `Memory` comes in
-    /// place of `BadEdit` only if a string comes before the fault, so never in place of
-    /// `Cause::Short`, `Cause::Op` or `Cause::Tag`. After a fault, also `Memory`, each later call
-    /// answers it again, and nothing changes. An empty piece changes nothing, and takes no memory.
+    /// only where a record has a good length, no edit was read of it, and more than 12 bytes have
+    /// come: so it never comes in the head, nor in place of `RecordLength`. If the record began in
+    /// this piece, `Memory` comes in place of `BadEdit` only if a string comes before the fault, so
+    /// never in place of `Cause::Short`, `Cause::Op` or `Cause::Tag`. After a fault, also `Memory`,
+    /// each later call answers it again, and nothing changes. An empty piece changes nothing, and
+    /// takes no memory.
     pub fn feed(&mut self, piece: &[u8], out: &mut Vec<Edit>) -> Result<(), EditFileError>
         // What was read of any bytes before, with the edits appended, is what is read of those bytes and the piece.
         ensures feeds { Feeds piece.now out.old.items out.new.items self.old self.new }
@@ -144,7 +145,7 @@ impl EditReader {
 
     /// The front of a piece that is best read at once, and what follows it. The front has so many
     /// records, the first of which may be cut. If it can be, the reader is between records after it.
-    /// Takes no memory.
+    /// Only the time that reading takes depends on it. Takes no memory.
     pub fn first<'a>(&self, piece: &'a [u8], records: usize) -> (&'a [u8], &'a [u8])
         ensures whole { piece.now ≡ result.0.now ++ result.1.now }
         ensures some { 0 < length piece.now → 0 < length result.0.now }

@@ -2,7 +2,7 @@
 ghost use Rattle.std.specs.Prelude.{◌≡◌, ◌⊎◌, ◌++◌, ◌+◌, ◌<◌, ◌≤◌, ◌^◌, ℕ, List, [], length, drop, slice_index, Some, None, OnOk, OnErr, IfOk, IfErr, IfSome, IfNone, false, true};
 ghost use Rattle.byteorder.specs.Endian.{little_number};
 ghost use Rattle.zed_editfile.specs.Spelling.{head_text};
-ghost use Rattle.zed_editfile.specs.Stream.{Gains, HasLength, MayWantMemoryBehind, waits, fails, is_other, is_version, head_stop, record_stop, IsWaiting, Advances, end_of};
+ghost use Rattle.zed_editfile.specs.Stream.{Gains, IsLong, MayWantMemoryBehind, waits, fails, is_other, is_version, head_stop, record_stop, IsWaiting, Advances, end_of};
 
 use crate::error::EditFileError;
 use crate::reading::{length_of, read_record, read_records};
@@ -76,7 +76,8 @@ fn fill<'a>(
     ensures size { OnOk result (length kept.old.items ≤ size → length kept.new.items ≤ size) }
     ensures none { IfOk result (λ left. length kept.new.items < size → left.now ≡ []) }
     ensures full { OnOk result (size ≤ length kept.old.items → kept.new.items ≡ kept.old.items) }
-    ensures memory_only_when { OnErr result (12 < size) }
+    ensures memory_only_when { OnErr result
+        ((12 < size) × (12 < length kept.old.items + length piece.now)) }
 {
     let count = size.saturating_sub(kept.len()).min(piece.len());
     let (front, left) = piece.split_at(count);
@@ -126,7 +127,7 @@ fn take_cut<'a>(
         × (record_stop version kept.new.items ≡ waits kept.new.items))) }
     ensures err { IfErr result (λ e. (out.new.items ≡ out.old.items)
         × (((e ≡ EditFileError.Memory) × (0 < length kept.old.items)
-        × HasLength (kept.old.items ++ piece.now))
+        × IsLong (kept.old.items ++ piece.now))
         ⊎ (record_stop version (kept.old.items ++ piece.now) ≡ fails e))) }
 {
     if kept.is_empty() {

@@ -83,6 +83,7 @@ fn put_all(edits: &[Edit], out: &mut Vec<u8>) -> Result<(), EditFileError>
     requires { AllFit edits.now }
     ensures ok { OnOk result (out.new.items ≡ out.old.items ++ flat_map record_text edits.now) }
     ensures err { IfErr result (λ e. e ≡ EditFileError.Memory) }
+    ensures memory_only_when { OnErr result (0 < length edits.now) }
 {
     for edit in edits {
         write_edit(edit, out)?;

@@ -1,5 +1,5 @@
-use Rattle.std.proofs.Common.{◌≡◌, ◌<◌, length, arith, [], refl, ap, sym, ◌∙◌, inl, inr}
-use Rattle.std.proofs.lemmas.List.{nil_from_length}
+use Rattle.std.proofs.Common.{◌≡◌, ◌<◌, ◌++◌, length, arith, [], refl, ap, sym, ◌∙◌, inl, inr}
+use Rattle.std.proofs.lemmas.List.{length-append, nil_from_length}
 use Rattle.std.proofs.lemmas.Result.{err_from_is_err_and}
 use Rattle.zed_editfile.specs.Stream.{is_length}
 use Rattle.zed_editfile.proofs.Cuts.{bad_on, length_on, fault_on, short_on, cut_on, nothing_left, within_size, taken_on, no_gain}
@@ -57,4 +57,7 @@ returns-in_err-left-in-Some-clause-err c =
     let len = rw c.as_slice.ensures at l in
     let some : 0 < length c.args.kept.now.items = grind arith in
     let good = ap is_length (sym len.1) ∙ len.2 in
-    rw (p.1, p.2) (refl, inl (refl, some, length_on _ c.fill.new.kept.items c.in_ok-piece.piece.now c.in_ok-piece.ensures.all (len.0, good)))
+    let all = c.in_ok-piece.ensures.all in
+    let past : 12 < length (c.args.kept.now.items ++ c.args.piece.now) =
+    omega (arith, c.in_err-left-in-Some.ensures.memory_only_when.1, length-append c.fill.new.kept.items c.in_ok-piece.piece.now, ap length all) in
+    rw (p.1, p.2) (refl, inl (refl, some, (length_on _ c.fill.new.kept.items c.in_ok-piece.piece.now all (len.0, good), past)))

@@ -1,4 +1,4 @@
-use Rattle.std.proofs.Common.{◌++◌, ◌≤◌, length, arith, refl, inl, inr}
+use Rattle.std.proofs.Common.{◌++◌, ◌<◌, length, arith, refl, inl, inr}
 use Rattle.std.proofs.lemmas.Result.{err_from_is_err_and}
 use Rattle.zed_editfile.proofs.Cuts.{no_gain, gain_on, waits_wants, began_fault, behind_fault}
 use Rattle.zed_editfile.proofs.stream.take_records.Goals as goal
@@ -14,8 +14,8 @@ returns-in_err-keep-in-Some-clause-err c =
     let p = err_from_is_err_and c.from_residual-in_err-keep-in-Some.result c.from_residual-in_err-keep-in-Some.ensures.1 in
     let h = rw c.in-Some.is at c.in_ok-take_cut.ensures.some in
     let room = rw h.0 at c.in_err-keep-in-Some.ensures.memory_only_when in
-    let long : 4 ≤ length c.in_ok-tail-in-Some.tail.now = omega (arith, room.1) in
-    rw (p.1, p.2) (c.in_ok-tail-in-Some.tail.now, gain_on c.args.version c.args.out.now.items c.take_cut.new.out.items c.read_records.new.out.items _ c.in-Some.left.now c.in_ok-tail-in-Some.tail.now h.1 c.in_ok-tail-in-Some.ensures.ok.0, inl (refl, inr (waits_wants c.args.version c.in_ok-tail-in-Some.tail.now c.in_ok-tail-in-Some.ensures.ok.1 long)))
+    let past : 12 < length c.in_ok-tail-in-Some.tail.now = omega (arith, room.1) in
+    rw (p.1, p.2) (c.in_ok-tail-in-Some.tail.now, gain_on c.args.version c.args.out.now.items c.take_cut.new.out.items c.read_records.new.out.items _ c.in-Some.left.now c.in_ok-tail-in-Some.tail.now h.1 c.in_ok-tail-in-Some.ensures.ok.0, inl (refl, inr (waits_wants c.args.version c.in_ok-tail-in-Some.tail.now c.in_ok-tail-in-Some.ensures.ok.1 past)))
 
 pub returns-in_err-tail-in-Some-clause-err : goal.returns-in_err-tail-in-Some-clause-err
 returns-in_err-tail-in-Some-clause-err c =
