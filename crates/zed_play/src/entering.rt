@@ -1,5 +1,5 @@
 //! Another board, where the player of a playtest comes to it.
-ghost use Rattle.std.specs.Prelude.{◌≡◌, ◌<◌, ◌≤◌, IfOk, slice_get};
+ghost use Rattle.std.specs.Prelude.{◌≡◌, ◌<◌, ◌≤◌, IfOk, OnErr, is_some, slice_get, true};
 ghost use Rattle.zed_play.specs.Entering.{arrives, bared, beyond, brought, carried, comes_by, comes_onto, comes_through, entered, game_on, goes_on, is_passage, last_passage, met, passage_among, place_of, scene_on, stays, way_from, way_of, way_to};
 
 use crate::ending::ending_by;
@@ -260,7 +260,7 @@ impl Play {
     /// on the other side and comes onto it if it can be walked on; else it stays on the board that it
     /// left. Through a passage it comes onto the last one of that colour, the furthest to the right
     /// and the lowest there, or else where the board has its player. Only a growth that is refused
-    /// makes it an error.
+    /// makes it an error, and only where there is such a board.
     pub fn enter(
         &self,
         alloc: Global,
@@ -269,6 +269,8 @@ impl Play {
         way: Way,
     ) -> Result<Option<Play>, AllocError>
         ensures result { IfOk result (λ next. next ≡ entered world.now board way self.now) }
+        ensures memory_only_when { OnErr result
+            (is_some (entered world.now board way self.now) ≡ true) }
     {
         let Some(data) = world.boards().get(board) else {
             return Ok(None);

@@ -1,7 +1,6 @@
 //! The playtest that begins on a board of a document, and the boards over which it goes on.
-ghost use Rattle.std.specs.Prelude.{◌≡◌, ◌≢◌, ◌⊎◌, Err, IfErr, IfOk, MatchResult, Ok, OnErr, false, is_some, slice_get, true};
+ghost use Rattle.std.specs.Prelude.{◌≡◌, ◌≢◌, ◌⊎◌, Err, IfErr, IfOk, MatchResult, Ok, false, slice_get};
 ghost use Rattle.zed_files.specs.Refusals.{IsOffStage};
-ghost use Rattle.zed_play.specs.Entering.{entered};
 ghost use Rattle.zed_playing.specs.Opening.{on_board, opened, over_boards, over_edits};
 
 use std::alloc::{AllocError, Global};
@@ -82,25 +81,6 @@ pub(crate) fn opened(
     Ok(Begun { play, boards })
 }
 
-/// The playtest that goes on on the board of this number of a world, to which the player of one came
-/// by a way, if there is such a board. Memory comes only then.
-fn entered(
-    alloc: Global,
-    world: &World,
-    from: &Play,
-    board: usize,
-    way: Way,
-) -> Result<Option<Play>, AllocError>
-    ensures result { IfOk result (λ next. next ≡ entered world.now board way from.now) }
-    ensures memory_only_when { OnErr result
-        (is_some (entered world.now board way from.now) ≡ true) }
-{
-    let Some(_) = world.boards().get(board) else {
-        return Ok(None);
-    };
-    from.enter(alloc, world, board, way)
-}
-
 impl Atlas for Boards {
     ghost world = { λ b. b.world };
 
@@ -112,7 +92,7 @@ impl Atlas for Boards {
         way: Way,
     ) -> Result<Option<Play>, AllocError> {
         match &self.world {
-            Some(world) => entered(alloc, world, from, usize::from(board), way),
+            Some(world) => from.enter(alloc, world, usize::from(board), way),
             None => Ok(None),
         }
     }
