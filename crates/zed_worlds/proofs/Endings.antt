@@ -2,9 +2,9 @@
 use Rattle.zed_op.specs.declared.op.Edit.{Edit}
 use Rattle.zed_files.specs.declared.refusal.Refusal.{Refusal}
 use Rattle.zed_files.specs.declared.refusal.Refusal.TheVariants.{File, Memory}
-use Rattle.std.proofs.Common.{◌≡◌, ℕ, List, Option, Some, None, Result, Ok, Err, MatchResult, ap, refl, subst, sym, inl, inr}
+use Rattle.std.proofs.Common.{◌≡◌, ◌∙◌, ℕ, List, Option, Some, None, Result, Ok, Err, MatchResult, ap, refl, subst, sym, inl, inr}
 use Rattle.std.specs.Global.{Vec}
-use Rattle.std.specs.Prelude.{⊤}
+use Rattle.std.specs.Prelude.{⊤, IfErr}
 use mathlib.Core.Logic.{◌⊎◌}
 use Rattle.zed_worlds.specs.Shown.{PlaysFile, PlaysOn, ShowsOn, chances_in, IsPlayedOf, ComesToShow, ComesToPlay, LacksForPlay}
 use Rattle.zed_host.specs.HostContents.{HostContents, IsRead, file_in}
@@ -98,6 +98,10 @@ lacks_for_play failed old new limit board chance names t e why is = elim why [
 pub no_memory : (result : Result ⊤ Refusal) → MatchResult result (λ _. ⊤) (λ e. e ≡ File) → result ≡ Err Memory → ⊥
 no_memory (Ok u) file memory = cc
 no_memory (Err e) file memory = cc
+
+pub print_wants_none : (p : Type 0) (result : Result ⊤ Refusal) → IfErr result (λ e. e ≡ File) → IfErr result (λ e. e ≡ Memory → p)
+print_wants_none p (Ok u) file = tt
+print_wants_none p (Err e) file = λ memory. absurd (let both : File ≡ Memory = sym file ∙ memory in cc)
 
 -- and nothing shown
 pub not_shown : (failed : Type 0) (old : Stage) (limit board : ℕ) (names : List (List ℕ)) (t : HostContents) (e : Refusal)

@@ -7,3 +7,4 @@ pub mod Others
 pub mod Played
 pub mod Reports
 pub mod Stepping
+pub mod There

@@ -1,11 +1,11 @@
 //! Boards played.
-ghost use Rattle.std.specs.Prelude.{[], ◌∷◌, ◌≡◌, ◌≤◌, ◌<◌, ◌⊎◌, ◌++◌, Err, IfErr, IfOk, MatchResult, Ok, OnOk, Some, false, length, slice_get, string_bytes, true};
+ghost use Rattle.std.specs.Prelude.{[], ◌∷◌, ◌≡◌, ◌≤◌, ◌<◌, ◌⊎◌, ◌++◌, Err, IfErr, IfOk, MatchResult, Ok, OnErr, OnOk, Some, false, is_some, length, slice_get, string_bytes, true};
 ghost use Rattle.std.specs.List.{flat_map};
 ghost use Rattle.zed_types.specs.declared.limits.TheConstants.{READ_BODY_LIMIT};
 ghost use Rattle.zed_host.specs.Calls.{Printing};
 ghost use Rattle.zed_host.specs.Counting.{Counts, Rose};
 ghost use Rattle.zed_files.specs.Faults.{TellsFailures};
-ghost use Rattle.zed_host.specs.HostContents.{HostContents};
+ghost use Rattle.zed_host.specs.HostContents.{HostContents, file_in};
 ghost use Rattle.zed_worlds.specs.Told.{message_line, standing_line, told_of};
 ghost use Rattle.zed_files.specs.Asked.{Asks, reading, refusal_in};
 ghost use Rattle.zed_worlds.specs.Shown.{EndsPlaying, IsOfPlay, IsPlayedOf, PlaysOn, board_in, chances_in, is_of_playing};
@@ -25,7 +25,8 @@ const MOST_KEYS: u32 = 1_048_576;
 
 // The words of chance of a file: numbers of two bytes each, the low one first; an odd last byte is dropped.
 fn chances_of(alloc: Global, bytes: &[u8]) -> Result<Vec<u16>, AllocError>
-    ensures { IfOk result (λ words. words.items ≡ chances_in bytes.now) }
+    ensures words { IfOk result (λ words. words.items ≡ chances_in bytes.now) }
+    ensures memory_only_when { OnErr result (2 ≤ length bytes.now) }
 {
     let mut words = Vec::new(alloc);
     let mut rest = bytes;
@@ -60,7 +61,8 @@ fn add_message(text: &mut Vec<u8>, message: &[u8]) -> Result<(), AllocError>
 
 // Messages, one a line.
 fn messages_told(alloc: Global, messages: &Messages) -> Result<Vec<u8>, AllocError>
-    ensures { IfOk result (λ text. text.items ≡ flat_map message_line messages.now) }
+    ensures text { IfOk result (λ text. text.items ≡ flat_map message_line messages.now) }
+    ensures memory_only_when { OnErr result (0 < length messages.now) }
 {
     let mut text = Vec::new(alloc);
     for index in 0..messages.len() {
@@ -162,6 +164,8 @@ fn played<H: Host>(
         (λ e. ((e ≡ Refusal.Memory) × (after ≡ before))
         ⊎ IsPlayedOf failed before after t limit board chance.now
         (texts_of files.now) (Err e)) }
+    ensures memory_only_when { (t : HostContents) → H.contents host.old ≡ Some t
+        → IfErr result (λ e. e ≡ Refusal.Memory → is_some (file_in t chance.now) ≡ true) }
     ensures idle { IfErr result (λ e. (is_of_playing e ≡ true)
         ⊎ ((screen.new ≡ screen.old) × (keys.new ≡ keys.old))) }
     ensures key_faults { Counts (is_key_fault result)
@@ -190,6 +194,7 @@ fn played<H: Host>(
 /// Plays a board of the world of edit files, by the words of chance of a file, and prints the
 /// playtest. The limit is the most bytes of a board's body. If the command is refused before the
 /// playtest begins, except for want of memory, neither the screen nor the source of keys is called.
+/// Memory may be lacking only if the file of chance is there.
 pub fn play<H: Host>(
     alloc: Global,
     host: &mut H,
@@ -209,6 +214,8 @@ pub fn play<H: Host>(
         (left keys.new) (keys_foretell keys.new) in
         EndsPlaying failed before after t limit board chance.now
         (texts_of files.now) result (H.contents host.new) }
+    ensures memory_only_when { (t : HostContents) → H.contents host.old ≡ Some t
+        → IfErr result (λ e. e ≡ Refusal.Memory → is_some (file_in t chance.now) ≡ true) }
     ensures idle { IfErr result (λ e. IsOfPlay H.called e host.new
         ⊎ ((screen.new ≡ screen.old) × (keys.new ≡ keys.old))) }
     ensures key_faults { Counts (is_key_fault result)

@@ -1,5 +1,5 @@
 //! What `check` prints.
-ghost use Rattle.std.specs.Prelude.{◌≡◌, ◌≤◌, ◌⊎◌, length, Err, IfOk, MatchResult, Ok, false, string_bytes};
+ghost use Rattle.std.specs.Prelude.{◌≡◌, ◌≤◌, ◌<◌, ◌⊎◌, length, Err, IfOk, MatchResult, Ok, OnErr, false, string_bytes};
 ghost use Rattle.std.specs.List.{flat_map};
 ghost use Rattle.zed_types.specs.declared.limits.TheConstants.{READ_BODY_LIMIT};
 ghost use Rattle.zed_world.specs.Writing.{HasText, world_text};
@@ -42,7 +42,8 @@ fn warning_told(alloc: Global, warning: Warning) -> Result<String, AllocError>
 }
 
 fn warnings_told(alloc: Global, warnings: &[Warning]) -> Result<Vec<u8>, AllocError>
-    ensures { IfOk result (λ text. text.items ≡ flat_map warning_line warnings.now) }
+    ensures text { IfOk result (λ text. text.items ≡ flat_map warning_line warnings.now) }
+    ensures memory_only_when { OnErr result (0 < length warnings.now) }
 {
     let mut text = Vec::new(alloc);
     for warning in warnings {

@@ -5,6 +5,7 @@ ghost use Rattle.zed_host.specs.Calls.{Printing};
 ghost use Rattle.zed_host.specs.Counting.{Rose};
 ghost use Rattle.zed_host.specs.HostContents.{HostContents};
 ghost use Rattle.zed_files.specs.Asked.{Asks, reading, refusal_in, writing};
+ghost use Rattle.zed_files.specs.Collected.{FirstIsThere};
 ghost use Rattle.zed_files.specs.Effects.{Ends};
 ghost use Rattle.zed_files.specs.Faults.{TellsFailures};
 ghost use Rattle.zed_files.specs.Refusals.{IsOffStage, TellsRefusal};
@@ -62,6 +63,8 @@ fn export_files_as<H: Host>(
         (Ok bytes.items))
         (λ e. (e ≡ Refusal.Memory)
         ⊎ IsMade failed t (texts_of files.now) (export_as form limit) (Err e)) }
+    ensures memory_only_when { (t : HostContents) → H.contents host.old ≡ Some t
+        → IfErr result (λ e. e ≡ Refusal.Memory → FirstIsThere t (texts_of files.now)) }
     ensures err { IfErr result IsOffStage }
     ensures kept { H.contents host.new ≡ H.contents host.old }
     ensures asked { Asks H.called (reading (texts_of files.now)) [] (refusal_in result) host.old host.new }
@@ -71,7 +74,8 @@ fn export_files_as<H: Host>(
     export_as(alloc, form, &document, limit)
 }
 
-/// Writes the world file of edit files, of at most so many bytes a body.
+/// Writes the world file of edit files, of at most so many bytes a body. Memory may be lacking only if
+/// the first file is there.
 pub fn save<H: Host>(
     alloc: Global,
     host: &mut H,
@@ -84,6 +88,8 @@ pub fn save<H: Host>(
         → let failed = Rose (H.faults host.old) (H.faults host.new) in
         Ends failed (ComesToSave failed t limit out.now (texts_of files.now)) t
         result (H.contents host.new) }
+    ensures memory_only_when { (t : HostContents) → H.contents host.old ≡ Some t
+        → IfErr result (λ e. e ≡ Refusal.Memory → FirstIsThere t (texts_of files.now)) }
     ensures err { IfErr result IsOffStage }
     ensures asked { Asks H.called (reading (texts_of files.now)) (writing out.now)
         (refusal_in result) host.old host.new }
@@ -94,7 +100,8 @@ pub fn save<H: Host>(
     write_out(host, out, bytes.as_slice(), line.as_str())
 }
 
-/// Prints the report on the world of edit files, of at most so many bytes a body.
+/// Prints the report on the world of edit files, of at most so many bytes a body. Memory may be lacking
+/// only if the first file is there.
 pub fn check<H: Host>(
     alloc: Global,
     host: &mut H,
@@ -105,6 +112,8 @@ pub fn check<H: Host>(
     ensures ends { (t : HostContents) → H.contents host.old ≡ Some t
         → let failed = Rose (H.faults host.old) (H.faults host.new) in
         Ends failed (ComesToCheck failed t limit (texts_of files.now)) t result (H.contents host.new) }
+    ensures memory_only_when { (t : HostContents) → H.contents host.old ≡ Some t
+        → IfErr result (λ e. e ≡ Refusal.Memory → FirstIsThere t (texts_of files.now)) }
     ensures err { IfErr result IsOffStage }
     ensures asked { Asks H.called (reading (texts_of files.now)) (Printing ∷ [])
         (refusal_in result) host.old host.new }

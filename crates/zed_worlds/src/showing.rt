@@ -1,10 +1,11 @@
 //! The command `show`.
-ghost use Rattle.std.specs.Prelude.{[], ◌≡◌, ◌≤◌, ◌⊎◌, Bool, Err, List, MatchResult, Ok, Option, Some, false};
+ghost use Rattle.std.specs.Prelude.{[], ◌≡◌, ◌≤◌, ◌⊎◌, Bool, Err, IfErr, List, MatchResult, Ok, Option, Some, false};
 ghost use Rattle.zed_types.specs.declared.limits.TheConstants.{READ_BODY_LIMIT};
 ghost use Rattle.zed_host.specs.Counting.{Counts, Rose};
 ghost use Rattle.zed_files.specs.Faults.{TellsFailures};
 ghost use Rattle.zed_host.specs.HostContents.{HostContents};
 ghost use Rattle.zed_files.specs.Asked.{Asks, reading, refusal_in};
+ghost use Rattle.zed_files.specs.Collected.{FirstIsThere};
 ghost use Rattle.zed_files.specs.Effects.{Ends};
 ghost use Rattle.zed_files.specs.Refusals.{TellsRefusal, is_key_fault, is_screen_fault};
 ghost use Rattle.zed_files.specs.Texts.{texts_of};
@@ -47,7 +48,8 @@ fn show_on(
 }
 
 /// Shows a board of the world of edit files, of at most so many bytes a body. The screen is called
-/// once, or not at all if the command is refused before.
+/// once, or not at all if the command is refused before. Memory may be lacking only if the first file
+/// is there.
 pub fn show<H: Host>(
     alloc: Global,
     host: &mut H,
@@ -64,6 +66,8 @@ pub fn show<H: Host>(
         let after = stage (shown screen.new) (screen_foretells screen.new) keys source in
         Ends failed (ComesToShow failed before after t limit board (texts_of files.now)) t
         result (H.contents host.new) }
+    ensures memory_only_when { (t : HostContents) → H.contents host.old ≡ Some t
+        → IfErr result (λ e. e ≡ Refusal.Memory → FirstIsThere t (texts_of files.now)) }
     ensures once { CallsOnce result
         (screen_foretells screen.old) (screen_foretells screen.new) (screen.new ≡ screen.old) }
     ensures err { is_key_fault result ≡ false }

@@ -1,4 +1,4 @@
-use Rattle.std.proofs.Common.{◌≡◌, ◌∙◌, Ok, refl}
+use Rattle.std.proofs.Common.{◌≡◌, ◌∙◌, Ok, is_some, refl, true}
 use Rattle.std.proofs.lemmas.Result.{err_from_is_err_and}
 use Rattle.zed_worlds.specs.Stage.{Stage, stage}
 use Rattle.zed_worlds.specs.Shown.{ComesToPlay}
@@ -6,7 +6,7 @@ use Rattle.zed_files.specs.Effects.{Prints}
 use Rattle.zed_files.specs.Texts.{texts_of}
 use Rattle.zed_host.proofs.Counts.{counted_up}
 use Rattle.zed_files.proofs.Endings.{effect_ends, refused_ends}
-use Rattle.zed_worlds.proofs.Endings.{lacks_for_play, no_memory, not_played, play_so}
+use Rattle.zed_worlds.proofs.Endings.{lacks_for_play, no_memory, not_played, play_so, print_wants_none}
 use Rattle.zed_files.proofs.Failures.{handed_on, write_tells}
 use Rattle.zed_files.proofs.OffStage.{keys_uncounted, screen_uncounted, written_off}
 use Rattle.zed_worlds.proofs.Idle.{unprinted, untold}
@@ -14,6 +14,7 @@ use Rattle.zed_worlds.proofs.OffStage.{keys_told, screen_told}
 use Rattle.std.proofs.Common.{[], ◌∷◌}
 use Rattle.zed_host.specs.Calls.{Printing}
 use Rattle.zed_files.specs.Asked.{reading, refusal_in}
+use Rattle.zed_host.specs.HostContents.{file_in}
 use Rattle.zed_files.proofs.Asked.{refused_at, then_last}
 use Rattle.zed_worlds.proofs.playing.play.Goals as goal
 
@@ -101,3 +102,14 @@ returns-clause-key_faults g c =
 pub returns-clause-screen_faults : goal.returns-clause-screen_faults
 returns-clause-screen_faults g c =
     screen_uncounted c.print_out.result _ _ (written_off c.print_out.result c.print_out.ensures.err) c.in_ok-text.ensures.screen_faults
+
+-- memory is lacking only behind the file of chance
+pub returns-in_err-text-clause-memory_only_when : goal.returns-in_err-text-clause-memory_only_when
+returns-in_err-text-clause-memory_only_when g c = λ t at.
+    let p = err_from_is_err_and c.from_residual.result c.from_residual.ensures.1 in
+    let same : p.0 ≡ c.in_err-text.field-0.0 = p.2 in
+    rw (p.1, same) (c.in_err-text.ensures.memory_only_when t at)
+
+pub returns-clause-memory_only_when : goal.returns-clause-memory_only_when
+returns-clause-memory_only_when g c = λ t at.
+    print_wants_none (is_some (file_in t c.args.chance.now) ≡ true) c.print_out.result c.print_out.ensures.err

@@ -9,9 +9,11 @@ use Rattle.zed_worlds.proofs.Idle.{unbegun}
 use Rattle.zed_worlds.proofs.Others.{or_memory, played_is_other}
 use Rattle.zed_files.specs.declared.refusal.Refusal.TheVariants.{Memory}
 use Rattle.zed_files.proofs.OffStage.{keys_uncounted, off_on, screen_uncounted, unread_off}
-use Rattle.std.proofs.Common.{◌∷◌, None, Some, refl}
+use Rattle.std.proofs.Common.{◌∷◌, None, Some, ap, is_some, refl, true}
 use Rattle.zed_host.specs.Calls.{Reading}
 use Rattle.zed_files.specs.Asked.{reading}
+use Rattle.zed_host.specs.HostContents.{file_in}
+use Rattle.zed_files.proofs.Wanting.{if_err}
 use Rattle.zed_files.proofs.Asked.{answer_after, read_before, read_refused, read_then_stopped}
 use Rattle.zed_worlds.proofs.playing.played.Goals as goal
 
@@ -54,7 +56,7 @@ returns-clause-played g c = λ t at.
     ((goal.Keys-dyn g c.args.keys.now).keys_foretell c.play_board.new.keys) in
     let here = c.in_ok-bytes.ensures.kept ∙ at in
     let words : c.as_slice-2.result.now ≡ chances_in c.in_ok-bytes.bytes.items =
-    c.as_slice-2.ensures.value ∙ rw c.as_slice.ensures.value at c.in_ok-words.ensures in
+    c.as_slice-2.ensures.value ∙ rw c.as_slice.ensures.value at c.in_ok-words.ensures.words in
     played_result _ old new c.args.limit c.play_board.result t c.from.result c.args.board c.args.chance.now c.in_ok-bytes.bytes.items c.as_slice-2.result.now (texts_of c.args.files.now)
     c.in_ok-document.document.edits c.from.ensures words (c.in_ok-bytes.ensures.bytes t at) (rw c.in_ok-bytes.ensures.calm at (c.in_ok-document.ensures.collected t here)) c.play_board.ensures.plays
 
@@ -154,3 +156,25 @@ returns-in_err-document-clause-key_faults g c =
 pub returns-in_err-document-clause-screen_faults : goal.returns-in_err-document-clause-screen_faults
 returns-in_err-document-clause-screen_faults g c =
     screen_uncounted c.from_residual-in_err-document.result _ _ (off_on c.from_residual-in_err-document.result c.in_err-document.field-0.0 c.from_residual-in_err-document.ensures.1 c.in_err-document.ensures.err) refl
+
+-- memory is lacking only behind the file of chance
+pub returns-in_err-bytes-clause-memory_only_when : goal.returns-in_err-bytes-clause-memory_only_when
+returns-in_err-bytes-clause-memory_only_when g c = λ t at.
+    let p = err_from_is_err_and c.from_residual.result c.from_residual.ensures.1 in
+    let same : p.0 ≡ c.in_err-bytes.field-0.0 = p.2 in
+    rw (p.1, same) (c.in_err-bytes.ensures.memory_only_when t at)
+
+pub returns-in_err-words-clause-memory_only_when : goal.returns-in_err-words-clause-memory_only_when
+returns-in_err-words-clause-memory_only_when g c = λ t at.
+    if_err c.from_residual-in_err-words.result (λ e. e ≡ Memory → is_some (file_in t c.args.chance.now) ≡ true)
+    (λ e lack. ap is_some (c.in_ok-bytes.ensures.bytes t at))
+
+pub returns-in_err-document-clause-memory_only_when : goal.returns-in_err-document-clause-memory_only_when
+returns-in_err-document-clause-memory_only_when g c = λ t at.
+    if_err c.from_residual-in_err-document.result (λ e. e ≡ Memory → is_some (file_in t c.args.chance.now) ≡ true)
+    (λ e lack. ap is_some (c.in_ok-bytes.ensures.bytes t at))
+
+pub returns-clause-memory_only_when : goal.returns-clause-memory_only_when
+returns-clause-memory_only_when g c = λ t at.
+    if_err c.play_board.result (λ e. e ≡ Memory → is_some (file_in t c.args.chance.now) ≡ true)
+    (λ e lack. ap is_some (c.in_ok-bytes.ensures.bytes t at))

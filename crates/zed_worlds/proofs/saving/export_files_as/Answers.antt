@@ -2,6 +2,10 @@ use Rattle.std.proofs.Common.{◌≡◌}
 use Rattle.std.proofs.lemmas.Result.{err_from_is_err_and}
 use Rattle.zed_worlds.specs.Made.{export_as}
 use Rattle.zed_files.specs.Texts.{texts_of}
+use Rattle.zed_files.specs.Collected.{FirstIsThere}
+use Rattle.zed_files.specs.declared.refusal.Refusal.TheVariants.{Memory}
+use Rattle.zed_files.proofs.Wanting.{if_err}
+use Rattle.zed_worlds.proofs.There.{collected_there}
 use Rattle.zed_worlds.proofs.Endings.{made_result, not_made}
 use Rattle.zed_files.proofs.Failures.{handed_on, other_tells}
 use Rattle.zed_files.proofs.OffStage.{made_off, off_on}
@@ -48,3 +52,15 @@ returns-in_err-document-clause-err g c =
 pub returns-clause-err : goal.returns-clause-err
 returns-clause-err g c =
     made_off _ _ c.export_as.result c.export_as.ensures.made (exported_off c.args.form c.args.limit c.in_ok-document.document.edits)
+
+-- memory is lacking only behind a file that is there
+pub returns-in_err-document-clause-memory_only_when : goal.returns-in_err-document-clause-memory_only_when
+returns-in_err-document-clause-memory_only_when g c = λ t at.
+    let p = err_from_is_err_and c.from_residual.result c.from_residual.ensures.1 in
+    let same : p.0 ≡ c.in_err-document.field-0.0 = p.2 in
+    rw (p.1, same) (c.in_err-document.ensures.memory_only_when t at)
+
+pub returns-clause-memory_only_when : goal.returns-clause-memory_only_when
+returns-clause-memory_only_when g c = λ t at.
+    if_err c.export_as.result (λ e. e ≡ Memory → FirstIsThere t (texts_of c.args.files.now))
+    (λ e lack. collected_there _ t (texts_of c.args.files.now) c.in_ok-document.document.edits (c.in_ok-document.ensures.collected t at))

@@ -3,6 +3,9 @@ use Rattle.zed_files.specs.Lines.{bytes_line}
 use Rattle.zed_worlds.specs.Made.{ComesToSave}
 use Rattle.zed_files.specs.Effects.{Writes}
 use Rattle.zed_files.specs.Texts.{texts_of}
+use Rattle.zed_files.specs.Collected.{FirstIsThere}
+use Rattle.zed_files.proofs.Wanting.{if_err}
+use Rattle.zed_worlds.proofs.There.{made_there}
 use Rattle.std.proofs.lemmas.Result.{err_from_is_err_and}
 use Rattle.zed_host.proofs.Counts.{counted_up}
 use Rattle.zed_files.proofs.Endings.{effect_ends, refused_ends}
@@ -75,3 +78,20 @@ returns-in_err-line-clause-err g c =
 
 pub returns-clause-err : goal.returns-clause-err
 returns-clause-err g c = written_off c.write_out.result c.write_out.ensures.err
+
+-- memory is lacking only behind a file that is there
+pub returns-in_err-bytes-clause-memory_only_when : goal.returns-in_err-bytes-clause-memory_only_when
+returns-in_err-bytes-clause-memory_only_when g c = λ t at.
+    let p = err_from_is_err_and c.from_residual.result c.from_residual.ensures.1 in
+    let same : p.0 ≡ c.in_err-bytes.field-0.0 = p.2 in
+    rw (p.1, same) (c.in_err-bytes.ensures.memory_only_when t at)
+
+pub returns-in_err-line-clause-memory_only_when : goal.returns-in_err-line-clause-memory_only_when
+returns-in_err-line-clause-memory_only_when g c = λ t at.
+    if_err c.from_residual-in_err-line.result (λ e. e ≡ Memory → FirstIsThere t (texts_of c.args.files.now))
+    (λ e lack. made_there _ t (texts_of c.args.files.now) _ c.in_ok-bytes.bytes.items (c.in_ok-bytes.ensures.made t at))
+
+pub returns-clause-memory_only_when : goal.returns-clause-memory_only_when
+returns-clause-memory_only_when g c = λ t at.
+    if_err c.write_out.result (λ e. e ≡ Memory → FirstIsThere t (texts_of c.args.files.now))
+    (λ e lack. made_there _ t (texts_of c.args.files.now) _ c.in_ok-bytes.bytes.items (c.in_ok-bytes.ensures.made t at))

@@ -2,6 +2,10 @@ use Rattle.std.proofs.Common.{◌∙◌, ◌≡◌, None, inr, refl}
 use Rattle.std.proofs.lemmas.Result.{err_from_is_err_and}
 use Rattle.zed_worlds.specs.Stage.{Stage, stage}
 use Rattle.zed_files.specs.Texts.{texts_of}
+use Rattle.zed_files.specs.Collected.{FirstIsThere}
+use Rattle.zed_files.specs.declared.refusal.Refusal.TheVariants.{Memory}
+use Rattle.zed_files.proofs.Wanting.{if_err}
+use Rattle.zed_worlds.proofs.There.{collected_there}
 use Rattle.zed_worlds.specs.Shown.{ComesToShow}
 use Rattle.zed_worlds.proofs.Endings.{not_shown, show_ends}
 use Rattle.zed_files.proofs.Endings.{refused_ends}
@@ -71,3 +75,15 @@ returns-in_err-document-clause-screen_faults g c =
 pub returns-in_err-document-clause-err : goal.returns-in_err-document-clause-err
 returns-in_err-document-clause-err g c =
     keys_off_on c.from_residual.result c.in_err-document.field-0.0 c.from_residual.ensures.1 c.in_err-document.ensures.err.1
+
+-- memory is lacking only behind a file that is there
+pub returns-in_err-document-clause-memory_only_when : goal.returns-in_err-document-clause-memory_only_when
+returns-in_err-document-clause-memory_only_when g c = λ t at.
+    let p = err_from_is_err_and c.from_residual.result c.from_residual.ensures.1 in
+    let same : p.0 ≡ c.in_err-document.field-0.0 = p.2 in
+    rw (p.1, same) (c.in_err-document.ensures.memory_only_when t at)
+
+pub returns-clause-memory_only_when : goal.returns-clause-memory_only_when
+returns-clause-memory_only_when g c = λ t at.
+    if_err c.show_on.result (λ e. e ≡ Memory → FirstIsThere t (texts_of c.args.files.now))
+    (λ e lack. collected_there _ t (texts_of c.args.files.now) c.in_ok-document.document.edits (c.in_ok-document.ensures.collected t at))
