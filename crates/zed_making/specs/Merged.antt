@@ -5,7 +5,7 @@ use Rattle.zed_link.specs.Pull.{most_reads}
 use Rattle.zed_link.specs.declared.error.LinkError.{LinkError}
 use Rattle.zed_link.specs.declared.pulled.Pulled.{Pulled}
 use Rattle.zed_files.specs.declared.refusal.Refusal.{Refusal}
-use Rattle.zed_files.specs.declared.refusal.Refusal.TheVariants.{NoLink}
+use Rattle.zed_files.specs.declared.refusal.Refusal.TheVariants.{Memory, NoLink}
 use Rattle.std.specs.Prelude.{◌≡◌, ◌⊎◌, ℕ, zero, suc, List, [], ◌∷◌, length, nat_lt, slice_get, false, Some, MatchBool, Result, Ok, Err}
 use Rattle.zed_action.specs.Deeds.{with_edits}
 use Rattle.zed_document.specs.Replica.{Replica}
@@ -35,6 +35,11 @@ PullsEach d (suc n) (link ∷ links) news r =
 abbrev pub IsMerged : ℕ → ℕ → List LinkSeen → List LinkSeen → Result (List Edit) Refusal → Type 0
 IsMerged world count links news r =
     MatchBool (nat_lt (length links) count) ((r ≡ Err NoLink) × (news ≡ links)) (PullsEach (empty_document world) count links news r)
+
+-- memory ran out in a pull, or behind the last one; so it hides no refusal of a link
+abbrev pub LacksForMerge : List LinkSeen → List LinkSeen → ℕ → ℕ → Type 0
+LacksForMerge links news world count =
+    IsMerged world count links news (Err Memory) ⊎ ((es : List Edit) × IsMerged world count links news (Ok es))
 
 -- one of these links made as many reads as a pull may make
 abbrev pub MadeMostReads : List LinkSeen → List LinkSeen → Type 0

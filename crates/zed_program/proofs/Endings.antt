@@ -18,7 +18,7 @@ use Rattle.zed_program.specs.Outcome.{ComesTo, EndsCalmly, EndsRun, HasLacked, H
 use Rattle.zed_files.specs.Effects.{Effect, Ends, IsRefused, after}
 use Rattle.zed_session.specs.Links.{LinkSeen}
 use Rattle.zed_op.specs.declared.op.Edit.{Edit}
-use Rattle.zed_making.specs.Merged.{ComesToMerge, IsMerged, MadeMostReads}
+use Rattle.zed_making.specs.Merged.{ComesToMerge, IsMerged, LacksForMerge, MadeMostReads}
 use Rattle.zed_worlds.specs.Shown.{CallsOnce, ComesToShow, EndsPlaying}
 use Rattle.zed_worlds.specs.Stage.{Stage}
 use Rattle.zed_making.proofs.Endings.{create_so, edit_so}
@@ -99,7 +99,7 @@ lacks_idle failed before (Save profile out files) t = tt
 lacks_idle failed before (Check profile files) t = tt
 lacks_idle failed before (New out world from name) t = tt
 lacks_idle failed before (EditFile file replica words) t = tt
-lacks_idle failed before (Merge out world files) t = tt
+lacks_idle failed before (Merge out world files) t = inl refl
 lacks_idle failed before (Show profile board files) t = refl
 lacks_idle failed before (Play profile board chance files) t = inl refl
 
@@ -197,6 +197,10 @@ pub pulls_as : (world count many : ℕ) (links after : List LinkSeen) → count 
     → (r : Result (List Edit) Refusal) × IsMerged world count links after r
     → (r : Result (List Edit) Refusal) × IsMerged world many links after r
 pulls_as world count many links after same pulls = subst (λ n. (r : Result (List Edit) Refusal) × IsMerged world n links after r) same pulls
+
+pub lacks_as : (world count many : ℕ) (links after : List LinkSeen) → count ≡ many → LacksForMerge links after world count
+    → (after ≡ links) ⊎ LacksForMerge links after world many
+lacks_as world count many links after same lacks = inr (subst (LacksForMerge links after world) same lacks)
 
 -- this limit, and these files
 pub show_as : (failed : Type 0) (old after : Stage) (given limit board : ℕ) (names files : List (List ℕ)) (t : HostContents) (result : Result ⊤ Refusal) (new : Option HostContents)

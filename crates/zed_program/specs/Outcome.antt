@@ -13,7 +13,7 @@ use Rattle.zed_words.specs.Commands.{Command, Save, Check, New, Edit as EditFile
 use Rattle.zed_files.specs.Effects.{Effect, Ends, after as left_by, IsRefused}
 use Rattle.zed_making.specs.Edited.{ComesToEdit}
 use Rattle.zed_making.specs.Fresh.{ComesToNew}
-use Rattle.zed_making.specs.Merged.{ComesToMerge, MadeMostReads}
+use Rattle.zed_making.specs.Merged.{ComesToMerge, LacksForMerge, MadeMostReads}
 use Rattle.zed_worlds.specs.Made.{ComesToSave, ComesToCheck}
 use Rattle.zed_worlds.specs.Shown.{ComesToShow, ComesToPlay, LacksForPlay}
 
@@ -51,8 +51,11 @@ abbrev pub HasTurned : Devices → Devices → Command → Type 0
 HasTurned old new (Merge out world files) = MadeMostReads old.links new.links
 HasTurned old new command = Unit {0}
 
--- what is so where a command lacks memory: a board wasn't shown, and of `play` the stage is as it was, or a playtest came to that
+-- what is so where a command lacks memory: no link of a merge was called, or memory ran out in a pull or behind the last one; a board wasn't
+-- shown; and of `play` the stage is as it was, or a playtest came to that
 abbrev pub HasLacked : Type 0 → Devices → Devices → Command → HostContents → Type 0
+HasLacked failed old new (Merge out world files) t =
+    (new.links ≡ old.links) ⊎ LacksForMerge old.links new.links world (length files)
 HasLacked failed old new (Show profile board files) t = new.stage ≡ old.stage
 HasLacked failed old new (Play profile board chance files) t =
     LacksForPlay failed old.stage new.stage t (limit_of profile) board chance files
@@ -70,7 +73,7 @@ status_of (Err e) = 1
 
 -- a command is refused and the user is told; the faults are counted from `old`, to `middle` before the
 -- user is told, and to `now`; and `counted` says that the host counts a call more that failed, which `File` shows; too many turns of a
--- merge are shown by its links, and want of memory by the stage
+-- merge are shown by its links, and want of memory by these or by the stage
 pub record RefusedRun (before after : Devices) (command : Command) (t : HostContents) (old now : ℕ) (counted : Type 0) (new : Option HostContents) : Type 0 where
   pub refusal : Refusal
   pub left : HostContents

@@ -6,7 +6,7 @@ ghost use Rattle.zed_session.specs.Links.{PullsOver, seen};
 ghost use Rattle.zed_host.specs.Counting.{Rose};
 ghost use Rattle.zed_files.specs.Faults.{TellsFailures};
 ghost use Rattle.zed_host.specs.HostContents.{HostContents};
-ghost use Rattle.zed_making.specs.Merged.{ComesToMerge, IsMerged};
+ghost use Rattle.zed_making.specs.Merged.{ComesToMerge, IsMerged, LacksForMerge};
 ghost use Rattle.zed_files.specs.Asked.{Asks, refusal_in, writing};
 ghost use Rattle.zed_files.specs.Effects.{Ends};
 ghost use Rattle.zed_files.specs.Refusals.{IsOffStage};
@@ -66,7 +66,7 @@ fn pulled_from(
 /// Merges the edits of links, one for each name of a file, into one edit file of a world. If there
 /// are fewer links than names, this is refused before any want of memory, and no link is called.
 /// Nothing is written to a link. Links after the one that is refused, and after the last one
-/// needed, are as they were.
+/// needed, are as they were. Memory hides no refusal of a link.
 pub(crate) fn merge<H: Host>(
     alloc: Global,
     host: &mut H,
@@ -80,6 +80,9 @@ pub(crate) fn merge<H: Host>(
         Ends failed (ComesToMerge (map (λ link. seen (ends link) (reads link)) links.old.items)
         (map (λ link. seen (ends link) (reads link)) links.new.items)
         out.now world (length files.now)) t result (H.contents host.new) }
+    ensures memory_only_when { result ≡ Err Refusal.Memory → LacksForMerge
+        (map (λ link. seen (ends link) (reads link)) links.old.items)
+        (map (λ link. seen (ends link) (reads link)) links.new.items) world (length files.now) }
     ensures err { IfErr result IsOffStage }
     ensures links { (r : Result (List TheEdit) Refusal) × IsMerged world (length files.now)
         (map (λ link. seen (ends link) (reads link)) links.old.items)

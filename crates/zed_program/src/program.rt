@@ -225,7 +225,8 @@ fn count_of(words: &[String]) -> usize
 }
 
 /// Runs the command that the words after the program's name ask for. The exit status is 0; 1 after
-/// a refusal, whose line is on standard error; or 2 if the words are no command.
+/// a refusal, whose line is on standard error; or 2 if the words are no command, unless memory runs
+/// out for its text.
 ///
 /// Unless the host fails at a write or at printing (`File`), a refusal writes no file. If a write
 /// failed, the file is as that left it; if only printing failed, the file is whole.

@@ -1,9 +1,9 @@
-use Rattle.std.proofs.Common.{◌≡◌, ◌≤◌, ◌∙◌, inl, arith, ap, ap₂, length}
+use Rattle.std.proofs.Common.{◌≡◌, ◌≤◌, ◌∙◌, Err, inl, inr, arith, ap, ap₂, length, subst, sym}
 use Rattle.std.proofs.lemmas.Result.{err_from_is_err_and}
 use Rattle.zed_editfile.specs.Spelling.{file_text}
 use Rattle.zed_files.specs.Lines.{held_line, joined_line}
 use Rattle.zed_files.specs.Effects.{Writes}
-use Rattle.zed_making.specs.Merged.{ComesToMerge}
+use Rattle.zed_making.specs.Merged.{ComesToMerge, IsMerged}
 use Rattle.zed_session.specs.Links.{seen}
 use Rattle.zed_files.proofs.Endings.{refused_ends}
 use Rattle.zed_making.proofs.Endings.{written_ends}
@@ -78,3 +78,18 @@ returns-in_err-document-clause-err g c =
 pub returns-in_err-line-clause-err : goal.returns-in_err-line-clause-err
 returns-in_err-line-clause-err g c =
     off_on c.from_residual-in_err-line.result Memory c.from_residual-in_err-line.ensures.1 (refl, refl)
+
+-- memory was lacking in a pull, or behind the last one
+pub returns-in_err-document-clause-memory_only_when : goal.returns-in_err-document-clause-memory_only_when
+returns-in_err-document-clause-memory_only_when g c = λ is.
+    let links = each_of c.args.links.now.items (λ link. seen ((goal.Link-dyn g (link.vtable, link.value)).ends link.value) ((goal.Link-dyn g (link.vtable, link.value)).reads link.value)) in
+    let news = each_of c.pulled_from.new.links.items (λ link. seen ((goal.Link-dyn g (link.vtable, link.value)).ends link.value) ((goal.Link-dyn g (link.vtable, link.value)).reads link.value)) in
+    let p = err_from_is_err_and c.from_residual.result c.from_residual.ensures.1 in
+    let lack : c.in_err-document.field-0.0 ≡ Memory = let both : Err p.0 ≡ Err Memory = sym p.1 ∙ is in cc in
+    inl (subst (λ e. IsMerged c.args.world (length c.args.files.now) links news (Err e)) lack c.in_err-document.ensures.pulled)
+
+pub returns-in_err-line-clause-memory_only_when : goal.returns-in_err-line-clause-memory_only_when
+returns-in_err-line-clause-memory_only_when g c = λ is. inr (c.in_ok-document.document.edits, c.in_ok-document.ensures.pulled)
+
+pub returns-clause-memory_only_when : goal.returns-clause-memory_only_when
+returns-clause-memory_only_when g c = λ is. inr (c.in_ok-document.document.edits, c.in_ok-document.ensures.pulled)

@@ -5,7 +5,7 @@ use Rattle.zed_worlds.specs.Stage.{Stage, stage}
 use Rattle.zed_words.specs.Commands.{meaning_of}
 use Rattle.zed_files.proofs.OffStage.{keys_uncounted, screen_uncounted, uncounted}
 use Rattle.zed_program.proofs.Called.{kept_idle, none_called, shown_idle, shown_once}
-use Rattle.zed_program.proofs.Endings.{merge_as, play_as, pulls_as, show_as, show_lacks}
+use Rattle.zed_program.proofs.Endings.{lacks_as, merge_as, play_as, pulls_as, show_as, show_lacks}
 use Rattle.zed_program.proofs.program.act.Goals as goal
 
 pub returns-in-Save-clause-ends : goal.returns-in-Save-clause-ends
@@ -23,7 +23,11 @@ returns-in-Edit-clause-ends g c = λ t at. rw (c.in-Edit.is, ← c.as_slice-in-E
 
 pub returns-in-Merge-clause-ends : goal.returns-in-Merge-clause-ends
 returns-in-Merge-clause-ends g c = λ t at.
-    rw c.in-Merge.is (merge_as _ _ _ _ _ _ _ t _ _ (ap length c.as_slice-in-Merge.ensures.value ∙ as_many _ _) (c.merge.ensures.ends t at), λ is. tt)
+    let many = ap length c.as_slice-in-Merge.ensures.value ∙ as_many _ _ in
+    rw c.in-Merge.is (
+      merge_as _ _ _ _ _ _ _ t _ _ many (c.merge.ensures.ends t at),
+      λ is. lacks_as _ _ _ _ _ many (c.merge.ensures.memory_only_when is),
+    )
 
 pub returns-in-Show-clause-ends : goal.returns-in-Show-clause-ends
 returns-in-Show-clause-ends g c = λ t at.
