@@ -59,5 +59,5 @@ abbrev pub BaseReads : Presence → List ℕ → List ℕ → List Call → Type
 BaseReads presence base file calls = MatchBool (bytes_eq base file) (calls ≡ []) (AsksBase presence base calls)
 
 -- memory may be wanted for a base of FILE: it is another file, and is there
-abbrev pub MayWantMemory : HostContents → List ℕ → List ℕ → Type 0
-MayWantMemory t base file = (bytes_eq base file ≡ false) × (is_some (file_in t base) ≡ true)
+abbrev pub MayWantMemoryForBase : HostContents → List ℕ → List ℕ → Type 0
+MayWantMemoryForBase t base file = (bytes_eq base file ≡ false) × (is_some (file_in t base) ≡ true)

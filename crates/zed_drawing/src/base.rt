@@ -2,7 +2,7 @@
 ghost use Rattle.std.specs.Prelude.{◌≡◌, IfErr, IfOk, IfSome, MatchBool, Some, false, true, is_some, option_map};
 ghost use Rattle.std.specs.Str.{bytes_eq};
 ghost use Rattle.zed_drawing.specs.Asked.{Reads, TellsFailures};
-ghost use Rattle.zed_drawing.specs.Base.{AsksBase, BaseReads, FindsBase, MayWantMemory, OfBase, ReadsBase};
+ghost use Rattle.zed_drawing.specs.Base.{AsksBase, BaseReads, FindsBase, MayWantMemoryForBase, OfBase, ReadsBase};
 ghost use Rattle.zed_drawing.specs.Refusals.{memory};
 ghost use Rattle.zed_drawing.specs.Steps.{Gives};
 ghost use Rattle.zed_host.specs.Counting.{Rose};
@@ -126,7 +126,7 @@ pub(crate) fn find_base<H: Host>(
     ensures sound { IfOk result (λ b. IfSome b (λ d. d.is_stale ≡ false)) }
     ensures own { IfOk result (λ b. IfSome b (λ _. bytes_eq base.now file.now ≡ false)) }
     ensures memory_only_when { (t : HostContents) → H.contents host.old ≡ Some t
-        → IfErr result (λ e. e ≡ memory → MayWantMemory t base.now file.now) }
+        → IfErr result (λ e. e ≡ memory → MayWantMemoryForBase t base.now file.now) }
     ensures kept { H.contents host.new ≡ H.contents host.old }
     ensures asked { Reads H.called (BaseReads presence base.now file.now)
         result host.old host.new }

@@ -1,6 +1,6 @@
 use Rattle.std.proofs.Common.{◌≡◌, ◌∙◌, sym, false, true, is_some}
 use Rattle.std.specs.Str.{bytes_eq}
-use Rattle.zed_drawing.specs.Base.{AsksBase, BaseReads, MayWantMemory}
+use Rattle.zed_drawing.specs.Base.{AsksBase, BaseReads, MayWantMemoryForBase}
 use Rattle.zed_host.specs.HostContents.{file_in}
 use Rattle.zed_drawing.proofs.Lacking.{lacks_too}
 use Rattle.zed_drawing.proofs.Asking.{nothing_read, reads_as}
@@ -31,5 +31,5 @@ returns-clause-asked g c =
 
 pub returns-clause-memory_only_when : goal.returns-clause-memory_only_when
 returns-clause-memory_only_when g c = λ t at.
-    lacks_too (is_some (file_in t c.args.base.now) ≡ true) (MayWantMemory t c.args.base.now c.args.file.now) c.read_base.result
+    lacks_too (is_some (file_in t c.args.base.now) ≡ true) (MayWantMemoryForBase t c.args.base.now c.args.file.now) c.read_base.result
     (λ there. (sym c.eq.ensures ∙ c.if-eq.false, there)) (c.read_base.ensures.memory_only_when t at)
