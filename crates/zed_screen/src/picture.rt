@@ -59,7 +59,8 @@ fn p1_at(scene: &Scene, place: Place) -> Option<u8>
     }
 }
 
-/// The character of a tile at a place of a board in play. Its stat is sought only if it shows one.
+/// The character of a tile at a place of a board in play. Its stat is sought only if the tile shows a
+/// parameter of it.
 fn scene_character(scene: &Scene, tile: Tile, place: Place) -> u8
     ensures { result ≡ character_as (look_of tile.element) tile.colour (p1_at scene.now place) }
 {
@@ -97,7 +98,8 @@ fn data_p1_at(stats: &[StatData], place: Place) -> Option<u8>
     }
 }
 
-/// The character of a tile at a place of a world's board. Its stat is sought only if it shows one.
+/// The character of a tile at a place of a world's board. Its stat is sought only if the tile shows a
+/// parameter of it.
 fn data_character(stats: &[StatData], tile: Tile, place: Place) -> u8
     ensures { result ≡ character_as (look_of tile.element) tile.colour
         (data_p1 (find (stands_at place) stats.now)) }

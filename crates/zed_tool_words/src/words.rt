@@ -381,7 +381,7 @@ fn text_or(alloc: Global, error: &Error, other: &str) -> Result<String, AllocErr
 /// # Errors
 /// `Help`, with clap's text, if the words ask for help; `Version` if they ask for the version;
 /// `Refused`, with a text that says why, if they are no command. `Memory` may come in place of any
-/// of these, since a text takes memory.
+/// of these and of a command, since reading the words takes memory.
 pub fn parse<'a>(alloc: Global, words: &'a [String]) -> Result<Command<'a>, ParseError>
     ensures asks { MatchResult result
         (λ a. command_of (map string_bytes words.entry.now) ≡ Some (meaning_of a))

@@ -14,7 +14,7 @@ pub trait Atlas {
 
     /// The playtest that goes on where the player of one left for a board by a way; or None, where
     /// there is no such board, or playtests don't go on. Only a growth that is refused makes it an
-    /// error, and only where there is one.
+    /// error, and only where there is such a board.
     fn enter(
         &self,
         alloc: Global,

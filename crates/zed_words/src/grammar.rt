@@ -149,7 +149,7 @@ fn new_command<'a>(alloc: Global) -> Result<Command<'a>, AllocError>
             alloc,
             "name",
             "TEXT",
-            "The name of the new world, at most 20 bytes; a world from a file keeps its own",
+            "The name of the new world, cut to 20 bytes; a world from a file keeps its own",
         ),
     )
 }

@@ -304,7 +304,8 @@ fn refused(alloc: Global, text: String) -> Result<ParseError, AllocError>
 ///
 /// # Errors
 /// `Refused`, with clap's text, which isn't empty, only if the words are no command; a request for
-/// help counts as that. `Memory` may come in its place, since the text takes memory.
+/// help counts as that. `Memory` may come in its place or that of a command, since reading the words
+/// takes memory.
 pub fn parse<'a>(alloc: Global, words: &'a [String]) -> Result<Command<'a>, ParseError>
     ensures { MatchResult result
         (λ a. command_of (map string_bytes words.entry.now) ≡ Some (meaning_of a))
