@@ -7,7 +7,8 @@ use zed_types::Stamp;
 
 /// The stamp of the record at the front, if as much of it is there.
 pub fn stamp_ahead(piece: &[u8]) -> Option<Stamp>
-    ensures some { IfSome result (λ s. (s.time ≡ little_number 6 (drop 4 piece.now))
+    ensures some { IfSome result (λ s. (12 ≤ length piece.now)
+        × (s.time ≡ little_number 6 (drop 4 piece.now))
         × (s.replica ≡ little_number 2 (drop 6 (drop 4 piece.now)))) }
     ensures none { IfNone result (length piece.now < 12) }
 {
