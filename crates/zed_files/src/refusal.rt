@@ -1,5 +1,5 @@
 //! Why a command was not carried out, and the lines that the program prints.
-ghost use Rattle.std.specs.Prelude.{◌≡◌, ◌≤◌, length, IfOk, IfSome, None, string_bytes, true};
+ghost use Rattle.std.specs.Prelude.{◌≡◌, ◌≤◌, length, IfOk, IfSome, None, false, string_bytes, true};
 ghost use Rattle.zed_files.specs.declared.refusal.Refusal.TheVariants.{BadEdit, File, Memory};
 ghost use Rattle.zed_files.specs.Refusals.{action_refusal, document_refusal, export_refusal, file_refusal, link_refusal, session_refusal, world_refusal};
 ghost use Rattle.zed_files.specs.Lines.{bytes_line, edits_line, has_numbers, held_line, line_of as line_for};
@@ -228,9 +228,10 @@ fn bad_edit_line(cause: Cause) -> &'static str
     }
 }
 
-/// The line of a refusal that has no numbers, for the standard error.
+/// The line of a refusal that has no numbers, for the standard error. None if it has numbers.
 pub fn plain_line(refusal: &Refusal) -> Option<&'static str>
     ensures line { IfSome result (λ text. text.now ≡ line_for refusal.now) }
+    ensures plain { IfSome result (λ text. has_numbers refusal.now ≡ false) }
     ensures none { result ≡ None → has_numbers refusal.now ≡ true }
     ensures short { IfSome result (λ text. length text.now ≤ 64) }
 {
