@@ -5,7 +5,7 @@ ghost use Rattle.byteorder.specs.Endian.{little_number};
 use byteorder::{ByteOrder, LittleEndian};
 use zed_types::Stamp;
 
-/// The stamp of the record at the front, if as much of it is there.
+/// The stamp of the record at the front, if its length and its stamp, 12 bytes, are there.
 pub fn stamp_ahead(piece: &[u8]) -> Option<Stamp>
     ensures some { IfSome result (λ s. (12 ≤ length piece.now)
         × (s.time ≡ little_number 6 (drop 4 piece.now))
@@ -23,7 +23,7 @@ pub fn stamp_ahead(piece: &[u8]) -> Option<Stamp>
     })
 }
 
-/// The number of the world in the head at the front, if the head is there.
+/// The number of the world in the head at the front, if the 12 bytes of a head are there.
 pub fn world_ahead(bytes: &[u8]) -> Option<u64>
     ensures some { IfSome result (λ w. (12 ≤ length bytes.now)
         × (w ≡ little_number 8 (drop 4 bytes.now))) }
