@@ -37,7 +37,7 @@ fn a_list_takes_elements_at_a_place(rt: HostRuntime) -> Result<(), Fail> {
 fn player_is_told() -> bool {
     let player = element(4);
     player.word == "PLAYER"
-        && player.look == Look::Character(b'@')
+        && player.character == Look::Character(b'@')
         && player.push == Push::Any
         && player.destructible
         && !player.walkable
@@ -46,10 +46,10 @@ fn player_is_told() -> bool {
 /// Whether these looks, pushes and words are told.
 fn others_are_told() -> bool {
     element(25).push == Push::NorthSouth
-        && element(36).look == Look::FirstParameter
-        && element(53).look == Look::Colour
+        && element(36).character == Look::FirstParameter
+        && element(53).character == Look::Colour
         && element(54).word == ""
-        && element(255).look == Look::Character(b'?')
+        && element(255).character == Look::Character(b'?')
 }
 
 #[test]

@@ -4,7 +4,7 @@ use zed_types::{Bytes, Rectangle, Side, Tile};
 /// An action of an author. Boards and stats are given by the numbers that they have now. Boards
 /// that aren't removed are numbered from 0, the title first, and so are the stats of a board, the
 /// player first.
-#[derive(Debug, Drop)]
+#[derive(Drop)]
 pub enum Action {
     /// A new board with this name.
     BoardAdd(Bytes),

@@ -19,14 +19,14 @@ pub struct Block {
 }
 
 /// A place in a text: a block, and a place in it.
-#[derive(Clone, Copy, Debug)]
+#[derive(Clone, Copy)]
 pub struct Spot {
     pub block: usize,
     pub place: usize,
 }
 
 /// A cut of the run at a place, as it was looked at: behind so many of its bytes.
-#[derive(Clone, Copy, Debug)]
+#[derive(Clone, Copy)]
 pub struct Cut {
     pub there: Run,
     pub bytes: u32,

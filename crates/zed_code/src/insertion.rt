@@ -22,7 +22,7 @@ use std::collections::BTreeMap;
 use zed_types::ElemId;
 
 /// Where a run goes: to a place, or into the run there, where that is cut.
-#[derive(Clone, Copy, Debug)]
+#[derive(Clone, Copy)]
 pub struct Target {
     pub at: Spot,
     pub cut: Option<Cut>,

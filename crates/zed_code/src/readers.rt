@@ -13,7 +13,7 @@ use crate::run::Run;
 use zed_types::ElemId;
 
 /// Positions of live bytes: from one to another, without that.
-#[derive(Clone, Copy, Debug)]
+#[derive(Clone, Copy)]
 pub struct Positions {
     pub from: usize,
     pub to: usize,

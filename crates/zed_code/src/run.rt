@@ -7,7 +7,7 @@ use zed_types::{ByteRange, ElemId, Stamp};
 
 /// Neighbouring bytes of one insertion, numbered in a row, all alive or all dead:
 /// `len` bytes of the store from `start` on.
-#[derive(Clone, Copy, Debug)]
+#[derive(Clone, Copy)]
 pub struct Run {
     pub stamp: Stamp,
     pub first: u32,

@@ -11,7 +11,7 @@ use crate::block::{Block, runs_at};
 use zed_types::TextByte;
 
 /// A place in a text: a block, a run of it, and a byte of that.
-#[derive(Clone, Copy, Debug)]
+#[derive(Clone, Copy)]
 pub struct Cursor {
     pub block: usize,
     pub run: usize,

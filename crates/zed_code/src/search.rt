@@ -17,7 +17,7 @@ use zed_types::ElemId;
 
 /// A byte of a text that was looked for, and the place of the first run that has it or later bytes
 /// of its insertion.
-#[derive(Clone, Copy, Debug)]
+#[derive(Clone, Copy)]
 pub struct Found {
     pub id: ElemId,
     pub at: Spot,

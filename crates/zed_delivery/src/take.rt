@@ -12,7 +12,7 @@ use zed_op::Edit;
 use zed_types::Stamp;
 
 /// What became of an edit that a body took.
-#[derive(Clone, Copy, Debug, PartialEq, Eq)]
+#[derive(Clone, Copy, PartialEq, Eq)]
 pub struct Taken {
     /// Whether it waits for a thing that it names.
     pub held: bool,

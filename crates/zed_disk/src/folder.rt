@@ -6,7 +6,7 @@ ghost use Rattle.zed_disk.specs.Steps.{Create, Fill, Keep, Remove, Rename, Step,
 use std::io;
 
 /// What becomes of a file when another one takes its place.
-#[derive(Clone, Copy, Debug, PartialEq, Eq)]
+#[derive(Clone, Copy, PartialEq, Eq)]
 pub enum Old {
     /// It is gone.
     Dropped,

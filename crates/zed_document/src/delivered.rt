@@ -3,7 +3,7 @@ ghost use Rattle.std.specs.Prelude.{◌≡◌};
 ghost use Rattle.zed_document.specs.Delivery.{state_of};
 
 /// What became of an edit that was delivered.
-#[derive(Clone, Copy, Debug, PartialEq, Eq)]
+#[derive(Clone, Copy, PartialEq, Eq)]
 pub enum State {
     /// All that it names was made, and it is done.
     Taken,
@@ -23,7 +23,7 @@ impl State {
 }
 
 /// What a delivery did.
-#[derive(Clone, Copy, Debug, PartialEq, Eq)]
+#[derive(Clone, Copy, PartialEq, Eq)]
 pub struct Delivered {
     pub state: State,
     /// How many held edits this one let be taken.

@@ -10,7 +10,7 @@ use crate::plain::{Board, Plain, Stat};
 use zed_types::{BoardId, StatId};
 
 /// A board's place among others: the lower one comes first.
-#[derive(Clone, Copy, Debug, PartialEq, Eq, PartialOrd, Ord)]
+#[derive(Clone, Copy, PartialEq, Eq, PartialOrd, Ord)]
 pub struct Standing {
     /// 0 for the title, and for any other board one more than its rank.
     pub place: u32,

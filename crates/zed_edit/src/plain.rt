@@ -39,7 +39,7 @@ pub struct Properties {
 }
 
 /// A stat: its registers, whether it is the player of its board, and whether it is marked removed.
-#[derive(Clone, Copy, Debug)]
+#[derive(Clone, Copy)]
 pub struct Stat {
     pub id: StatId,
     pub is_player: bool,

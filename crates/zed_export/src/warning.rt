@@ -9,7 +9,7 @@ use zed_types::{PLAYER, TILES, Tile, has_tile, tile_at};
 use zed_world::{BoardData, StatData, World};
 
 /// What is odd about a world, though it can be saved.
-#[derive(Clone, Copy, Debug, PartialEq, Eq)]
+#[derive(Clone, Copy, PartialEq, Eq)]
 pub enum Warning {
     /// There is no player tile at the place of this board's player.
     PlayerTile(usize),

@@ -7,7 +7,7 @@ ghost use Rattle.zed_link.specs.Writing.{CountsWrite};
 ghost use Rattle.zed_link.specs.declared.writes.Writes.{Writes};
 
 /// A call of a link failed.
-#[derive(Clone, Copy, Debug, PartialEq, Eq)]
+#[derive(Clone, Copy, PartialEq, Eq)]
 pub struct LinkFailed;
 
 /// A two-way stream of bytes.

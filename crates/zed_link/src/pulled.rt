@@ -5,7 +5,7 @@ ghost use Rattle.zed_link.specs.Tally.{plus as sum_of, tally};
 use zed_document::State;
 
 /// How many edits came over a link, by what became of them.
-#[derive(Clone, Copy, Debug, PartialEq, Eq)]
+#[derive(Clone, Copy, PartialEq, Eq)]
 pub struct Pulled {
     /// All that they name was made at their turn, and they are done.
     pub taken: usize,

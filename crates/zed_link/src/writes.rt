@@ -2,7 +2,7 @@
 ghost use Rattle.zed_link.specs.Writing.{CountsWrite};
 
 /// How many writes were made to a link, each count up to the greatest `u64`.
-#[derive(Clone, Copy, Debug, PartialEq, Eq)]
+#[derive(Clone, Copy, PartialEq, Eq)]
 pub struct Writes {
     /// All of them, those that failed too.
     pub made: u64,

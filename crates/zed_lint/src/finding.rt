@@ -2,7 +2,7 @@
 use zed_types::{Bytes, Place, Side, Tile};
 
 /// Where something was found.
-#[derive(Clone, Copy, Debug, PartialEq, Eq)]
+#[derive(Clone, Copy, PartialEq, Eq)]
 pub enum Spot {
     /// The world as a whole.
     World,
@@ -16,7 +16,7 @@ pub enum Spot {
 }
 
 /// What was found.
-#[derive(Debug, Drop)]
+#[derive(Drop)]
 pub enum What {
     /// The file of the world has so many bytes, over 350,000.
     LongFile(usize),
@@ -51,7 +51,7 @@ pub enum What {
 }
 
 /// What was found, and where.
-#[derive(Debug, Drop)]
+#[derive(Drop)]
 pub struct Finding {
     pub spot: Spot,
     pub what: What,

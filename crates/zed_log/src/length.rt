@@ -1,7 +1,7 @@
 //! Short lines, and lines in full.
 
 /// How much of the line of a Genesis is written. Other edits have the same line either way.
-#[derive(Clone, Copy, Debug, PartialEq, Eq)]
+#[derive(Clone, Copy, PartialEq, Eq)]
 pub enum Length {
     /// Two dots replace the bytes of its world.
     Short,

@@ -9,7 +9,7 @@ use crate::svg::put_svg;
 use std::alloc::{AllocError, Global};
 
 /// The form of a picture.
-#[derive(Clone, Copy, Debug, PartialEq, Eq)]
+#[derive(Clone, Copy, PartialEq, Eq)]
 pub enum Form {
     /// 25 lines in UTF-8, with the codes by which a terminal shows the colours.
     Coloured,

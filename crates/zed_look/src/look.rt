@@ -3,7 +3,7 @@
 use zed_types::{COLUMNS, ROWS};
 
 /// What is shown at one place.
-#[derive(Clone, Copy, Debug)]
+#[derive(Clone, Copy)]
 pub struct Spot {
     /// The number of a character of code page 437.
     pub character: u8,
@@ -12,13 +12,13 @@ pub struct Spot {
 }
 
 /// A picture of the table of a board, row by row.
-#[derive(Clone, Copy, Debug)]
+#[derive(Clone, Copy)]
 pub struct Picture {
     pub rows: [[Spot; COLUMNS]; ROWS],
 }
 
 /// What a picture shows of a stat.
-#[derive(Clone, Copy, Debug)]
+#[derive(Clone, Copy)]
 pub struct Pose {
     pub p1: u8,
     pub step_x: i16,

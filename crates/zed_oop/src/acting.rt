@@ -6,7 +6,7 @@ use zed_scene::{Scene, Step};
 use zed_script::line_after;
 
 /// How the turn goes on after an instruction.
-#[derive(Clone, Copy, Debug, PartialEq, Eq)]
+#[derive(Clone, Copy, PartialEq, Eq)]
 pub enum Next {
     /// The rest of the line is skipped.
     Skip,

@@ -29,7 +29,7 @@ const EMPTY: TileKind = TileKind {
 };
 
 /// A command that has a direction and is no shot.
-#[derive(Clone, Copy, Debug)]
+#[derive(Clone, Copy)]
 enum Motion {
     Go,
     Try,

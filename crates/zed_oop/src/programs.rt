@@ -8,7 +8,7 @@ use zed_scene::Scene;
 use zed_types::Bytes;
 
 /// What becomes of the labels of a word.
-#[derive(Clone, Copy, Debug)]
+#[derive(Clone, Copy)]
 pub(crate) enum Relabelling {
     /// The first is hidden.
     Hide,

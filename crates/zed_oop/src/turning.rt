@@ -13,7 +13,7 @@ use zed_script::{Heading, Instruction, OopCommand, next_command, standing_at};
 use zed_types::{Bytes, Place, Seq};
 
 /// What is read next.
-#[derive(Clone, Copy, Debug, PartialEq, Eq)]
+#[derive(Clone, Copy, PartialEq, Eq)]
 pub enum Reading {
     Instructing,
     /// A command, of the instruction that began at a place.
@@ -21,7 +21,7 @@ pub enum Reading {
 }
 
 /// How the turn goes on.
-#[derive(Clone, Copy, Debug, PartialEq, Eq)]
+#[derive(Clone, Copy, PartialEq, Eq)]
 pub enum After {
     Ends,
     Goes(Reading),
@@ -30,7 +30,7 @@ pub enum After {
 }
 
 /// What a turn did, beside its changes of the board.
-#[derive(Debug, Drop)]
+#[derive(Drop)]
 pub struct Effects {
     /// Words of chance that were used.
     pub used: usize,

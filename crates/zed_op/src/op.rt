@@ -5,7 +5,7 @@ use zed_types::{
 };
 
 /// What an edit does.
-#[derive(Debug, Drop, PartialEq, Eq)]
+#[derive(Drop, PartialEq, Eq)]
 pub enum Op {
     /// Makes the world that the bytes of a world file spell.
     Genesis(Bytes),
@@ -34,7 +34,7 @@ pub enum Op {
 }
 
 /// An edit: what it does, and the stamp that says when it was made and by whom.
-#[derive(Debug, Drop, PartialEq, Eq)]
+#[derive(Drop, PartialEq, Eq)]
 pub struct Edit {
     pub stamp: Stamp,
     pub op: Op,

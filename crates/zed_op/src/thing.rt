@@ -6,7 +6,7 @@ ghost use Rattle.zed_op.specs.declared.thing.Thing.TheVariants.{Board as board};
 use zed_types::{BoardId, ElemId, StatId, TextId};
 
 /// What an edit makes or names. A byte of a text is named together with its text.
-#[derive(Clone, Copy, Debug, PartialEq, Eq, PartialOrd, Ord)]
+#[derive(Clone, Copy, PartialEq, Eq, PartialOrd, Ord)]
 pub enum Thing {
     Board(BoardId),
     Stat(StatId),

@@ -14,7 +14,7 @@ use zed_types::{COLUMNS, PASSAGE, Place, ROWS, Side, TILES, Tile};
 use zed_world::{BoardData, World};
 
 /// How a player comes from one board to another.
-#[derive(Clone, Copy, Debug)]
+#[derive(Clone, Copy)]
 pub enum Way {
     /// Over the edge to a side, from a place.
     Edge(Side, Place),

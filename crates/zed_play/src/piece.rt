@@ -33,7 +33,7 @@ pub(crate) fn piece_of(element: u8) -> Piece
 }
 
 /// What a tile is, as far as it acts or can be touched.
-#[derive(Clone, Copy, Debug, PartialEq, Eq)]
+#[derive(Clone, Copy, PartialEq, Eq)]
 pub enum Piece {
     Player,
     Ammo,

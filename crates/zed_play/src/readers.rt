@@ -7,7 +7,7 @@ use crate::play::Play;
 use zed_oop::{Counters, Scene};
 
 /// What the player carries.
-#[derive(Clone, Copy, Debug)]
+#[derive(Clone, Copy)]
 pub struct Carried {
     /// The six counters that programs give and take.
     pub counters: Counters,

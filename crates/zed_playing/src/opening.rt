@@ -13,7 +13,7 @@ use zed_types::READ_BODY_LIMIT;
 use zed_world::World;
 
 /// Whether a playtest goes on over boards.
-#[derive(Clone, Copy, Debug, PartialEq, Eq)]
+#[derive(Clone, Copy, PartialEq, Eq)]
 pub enum Going {
     /// It is of one board.
     Stays,

@@ -1,7 +1,7 @@
 //! The counters of a player.
 
 /// Six numbers that programs give and take.
-#[derive(Clone, Copy, Debug, PartialEq, Eq)]
+#[derive(Clone, Copy, PartialEq, Eq)]
 pub struct Counters {
     pub health: i16,
     pub ammo: i16,

@@ -9,7 +9,7 @@ use std::marker::Model;
 use zed_types::{Bytes, COLUMNS, Place, Seq, TILES, Tile};
 
 /// A board in play, with ten flags. Contracts see it as the record of what it holds.
-#[derive(Debug, Drop)]
+#[derive(Drop)]
 pub struct Scene {
     pub(crate) tiles: [Tile; TILES],
     pub(crate) stats: Seq<Stat>,

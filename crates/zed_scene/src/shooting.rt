@@ -12,7 +12,7 @@ use std::alloc::AllocError;
 use zed_types::{Place, Tile};
 
 /// Who shoots.
-#[derive(Clone, Copy, Debug, PartialEq, Eq)]
+#[derive(Clone, Copy, PartialEq, Eq)]
 pub enum Shooter {
     Player,
     Creature,

@@ -3,7 +3,7 @@ use crate::step::Step;
 use zed_types::{Place, Tile};
 
 /// A stat in play: something at a place that acts.
-#[derive(Clone, Copy, Debug)]
+#[derive(Clone, Copy)]
 pub struct Stat {
     /// Column and row; other numbers are outside the table.
     pub place: Place,

@@ -5,7 +5,7 @@ ghost use Rattle.zed_scene.specs.Places.{ahead, apart, moved, clockwise, counter
 use zed_types::{COLUMNS, Place, ROWS, has_tile};
 
 /// A direction, or the step of a stat: how far it leads along the columns and along the rows.
-#[derive(Clone, Copy, Debug, PartialEq, Eq)]
+#[derive(Clone, Copy, PartialEq, Eq)]
 pub struct Step {
     pub x: i16,
     pub y: i16,

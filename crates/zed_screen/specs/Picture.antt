@@ -13,7 +13,7 @@ use Rattle.zed_screen.specs.declared.frame.Cell.{Cell}
 
 -- how an element looks
 unfoldable pub look_of : ℕ → Look
-look_of n = (row_of n).look
+look_of n = (row_of n).character
 
 -- the first parameter of a stat as a character; `?` without a stat
 abbrev pub or_mark : Option ℕ → ℕ

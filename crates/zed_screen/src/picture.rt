@@ -11,7 +11,7 @@ use zed_world::{BoardData, StatData};
 fn look_of(n: u8) -> Look
     ensures { result ≡ look_of n }
 {
-    element(n).look
+    element(n).character
 }
 
 /// The first parameter of a stat as a character; `?` without a stat.

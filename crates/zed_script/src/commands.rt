@@ -13,7 +13,7 @@ use std::alloc::{AllocError, Global};
 use zed_types::Bytes;
 
 /// A number that programs give and take.
-#[derive(Clone, Copy, Debug, PartialEq, Eq)]
+#[derive(Clone, Copy, PartialEq, Eq)]
 pub enum Counter {
     Health,
     Ammo,
@@ -24,7 +24,7 @@ pub enum Counter {
 }
 
 /// A command as a program writes it. None means a counter or a kind that doesn't exist.
-#[derive(Debug, Drop)]
+#[derive(Drop)]
 pub enum OopCommand {
     Go(Heading),
     Try(Heading),

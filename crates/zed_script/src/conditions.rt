@@ -12,7 +12,7 @@ use std::alloc::{AllocError, Global};
 use zed_types::Bytes;
 
 /// What is asked.
-#[derive(Debug, Drop)]
+#[derive(Drop)]
 pub enum Test {
     /// In the same row or column as the player.
     Aligned,
@@ -28,7 +28,7 @@ pub enum Test {
 }
 
 /// A condition as a program writes it.
-#[derive(Debug, Drop)]
+#[derive(Drop)]
 pub struct Query {
     pub negated: bool,
     pub test: Test,

@@ -8,7 +8,7 @@ use std::alloc::{AllocError, Global};
 use zed_types::Seq;
 
 /// How a direction is turned.
-#[derive(Clone, Copy, Debug, PartialEq, Eq)]
+#[derive(Clone, Copy, PartialEq, Eq)]
 pub enum Turning {
     Clockwise,
     CounterClockwise,
@@ -18,7 +18,7 @@ pub enum Turning {
 }
 
 /// A direction that isn't turned.
-#[derive(Clone, Copy, Debug, PartialEq, Eq)]
+#[derive(Clone, Copy, PartialEq, Eq)]
 pub enum Course {
     North,
     South,
@@ -33,7 +33,7 @@ pub enum Course {
 }
 
 /// A direction as a program writes it.
-#[derive(Debug, Drop)]
+#[derive(Drop)]
 pub struct Heading {
     /// The first of them turns last.
     pub turns: Seq<Turning>,

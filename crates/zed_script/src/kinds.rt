@@ -7,7 +7,7 @@ use crate::text::{says, written_at};
 use zed_types::{PLAYER, Tile, element};
 
 /// A kind of tiles: an element, of one colour or of any.
-#[derive(Clone, Copy, Debug, PartialEq, Eq)]
+#[derive(Clone, Copy, PartialEq, Eq)]
 pub struct TileKind {
     pub colour: Option<u8>,
     pub element: u8,

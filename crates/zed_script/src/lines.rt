@@ -8,7 +8,7 @@ use std::alloc::{AllocError, Global};
 use zed_types::{Bytes, Seq};
 
 /// The kind of a line, by its first byte.
-#[derive(Clone, Copy, Debug, PartialEq, Eq)]
+#[derive(Clone, Copy, PartialEq, Eq)]
 pub enum LineKind {
     /// A byte 0, where the program ends.
     End,
@@ -27,7 +27,7 @@ pub enum LineKind {
 }
 
 /// What is at a place of a program.
-#[derive(Debug, Drop)]
+#[derive(Drop)]
 pub enum Instruction {
     End,
     Skipped,
@@ -41,7 +41,7 @@ pub enum Instruction {
 }
 
 /// A line of a program.
-#[derive(Clone, Copy, Debug)]
+#[derive(Clone, Copy)]
 pub struct Line<'a> {
     pub kind: LineKind,
     pub start: usize,
@@ -50,7 +50,7 @@ pub struct Line<'a> {
 }
 
 /// The lines of a program.
-#[derive(Debug, Drop)]
+#[derive(Drop)]
 pub struct Program<'a> {
     pub lines: Seq<Line<'a>>,
 }

@@ -7,7 +7,7 @@ use std::alloc::{AllocError, Global};
 use zed_types::Bytes;
 
 /// What a run of bytes is made of.
-#[derive(Clone, Copy, Debug)]
+#[derive(Clone, Copy)]
 pub(crate) enum Class {
     Space,
     Digit,

@@ -7,7 +7,7 @@ use crate::error::SessionError;
 use zed_screen::Frame;
 
 /// The answer of a device that failed.
-#[derive(Clone, Copy, Debug, PartialEq, Eq)]
+#[derive(Clone, Copy, PartialEq, Eq)]
 pub struct DeviceFailed;
 
 /// A screen, on which frames are shown one after the other.

@@ -6,11 +6,11 @@ ghost use Rattle.zed_staging.specs.Devices.{Foretold, Takes};
 use zed_play::Key;
 
 /// What a device answers that failed.
-#[derive(Clone, Copy, Debug, PartialEq, Eq)]
+#[derive(Clone, Copy, PartialEq, Eq)]
 pub struct DeviceFailed;
 
 /// What one does who plays at a terminal.
-#[derive(Clone, Copy, Debug, PartialEq, Eq)]
+#[derive(Clone, Copy, PartialEq, Eq)]
 pub enum Input {
     /// Presses a key.
     Pressed(Key),

@@ -6,7 +6,7 @@ use crate::input::Input;
 use zed_play::Key;
 
 /// How far the bytes of a key or of a size were read.
-#[derive(Clone, Copy, Debug, PartialEq, Eq)]
+#[derive(Clone, Copy, PartialEq, Eq)]
 pub enum Reading {
     /// Between keys.
     Between,
@@ -29,7 +29,7 @@ pub enum Reading {
 }
 
 /// How far was read with a byte, and what it completes, if it does.
-#[derive(Clone, Copy, Debug, PartialEq, Eq)]
+#[derive(Clone, Copy, PartialEq, Eq)]
 pub struct Stroke {
     pub reading: Reading,
     pub input: Option<Input>,

@@ -6,7 +6,7 @@ ghost use Rattle.zed_stats.specs.Fields.{field_of, field_number};
 use zed_types::{StatByte, StatNumber, StatSetting};
 
 /// A field of a stat.
-#[derive(Clone, Copy, Debug, PartialEq, Eq)]
+#[derive(Clone, Copy, PartialEq, Eq)]
 pub enum StatField {
     Byte(StatByte),
     Number(StatNumber),

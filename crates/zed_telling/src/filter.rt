@@ -1,7 +1,7 @@
 //! The filters of `log`, as its words give them.
 
 /// Which edits `log` prints: those that pass all given filters. Boards have their numbers of today.
-#[derive(Clone, Copy, Debug, PartialEq, Eq)]
+#[derive(Clone, Copy, PartialEq, Eq)]
 pub struct Filter {
     /// The edits of this board: the one that made it; those that set its properties or its cells,
     /// add a stat or remove the board; those of its stats, removed or not; and those of texts that

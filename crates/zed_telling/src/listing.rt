@@ -26,7 +26,7 @@ use zed_types::READ_BODY_LIMIT;
 use zed_world::{BoardData, World};
 
 /// What `list` prints.
-#[derive(Clone, Copy, Debug, PartialEq, Eq)]
+#[derive(Clone, Copy, PartialEq, Eq)]
 pub enum Listing {
     /// A line for each board.
     Boards,

@@ -34,7 +34,7 @@ const NO_COMMAND: &str =
 const USAGE: &str = "Usage: zztool <COMMAND>\n";
 
 /// Why the words are no command.
-#[derive(Debug, Drop)]
+#[derive(Drop)]
 pub enum ParseError {
     Memory,
     /// The words are refused, with the text for the user, which is never empty.

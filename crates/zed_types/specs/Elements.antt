@@ -9,15 +9,15 @@ use Rattle.zed_types.specs.declared.kind.Element.{Element}
 -- a row of the table: the word, what is shown, whether it is walkable, how it is pushed, whether it is destructible
 pub record Row : Type 0 where
   pub word : List ℕ
-  pub look : Look
+  pub character : Look
   pub walkable : Bool
   pub push : Push
   pub destructible : Bool
 
--- a row by its columns: the word, the look, whether walkable, how pushed, whether destructible
+-- a row by its columns: the word, what is shown, whether walkable, how pushed, whether destructible
 abbrev pub row : List ℕ → Look → Bool → Push → Bool → Row
-row word look walkable push destructible =
-    record { word = word; look = look; walkable = walkable; push = push; destructible = destructible }
+row word character walkable push destructible =
+    record { word = word; character = character; walkable = walkable; push = push; destructible = destructible }
 
 -- the elements from 0 on
 abbrev pub rows : List Row
@@ -85,7 +85,7 @@ row_of n = slice_index_or rows n (row [] (Character 63) false Not false)
 -- an element is what its row says
 pub record IsRow (e : Element) (r : Row) : Type 0 where
   pub word : e.word.now ≡ r.word
-  pub look : e.look ≡ r.look
+  pub character : e.character ≡ r.character
   pub walkable : e.walkable ≡ r.walkable
   pub push : e.push ≡ r.push
   pub destructible : e.destructible ≡ r.destructible

@@ -12,10 +12,10 @@ pub const PASSAGE: u8 = 11;
 
 /// A row of the table: the word, what is shown, whether it is walkable, which way it is pushed, whether it is destructible.
 macro_rules! kind {
-    ($word:literal, $look:expr, $walkable:literal, $push:ident, $destructible:literal) => {
+    ($word:literal, $character:expr, $walkable:literal, $push:ident, $destructible:literal) => {
         Element {
             word: $word,
-            look: $look,
+            character: $character,
             walkable: $walkable,
             push: Push::$push,
             destructible: $destructible,

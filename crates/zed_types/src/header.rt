@@ -9,7 +9,7 @@ use crate::names::BoardId;
 use std::alloc::AllocError;
 
 /// The numbers of a world's header, each a signed 16-bit number.
-#[derive(Clone, Copy, Debug, PartialEq, Eq)]
+#[derive(Clone, Copy, PartialEq, Eq)]
 pub enum HeaderNumber {
     Ammo,
     Gems,
@@ -61,7 +61,7 @@ impl HeaderNumber {
 }
 
 /// The colours of the seven keys, in the order in which the header has them.
-#[derive(Clone, Copy, Debug, PartialEq, Eq)]
+#[derive(Clone, Copy, PartialEq, Eq)]
 pub enum KeyColour {
     Blue,
     Green,
@@ -91,7 +91,7 @@ impl KeyColour {
 }
 
 /// The ten places for flags, in the order in which the header has them.
-#[derive(Clone, Copy, Debug, PartialEq, Eq)]
+#[derive(Clone, Copy, PartialEq, Eq)]
 pub enum FlagSlot {
     First,
     Second,
@@ -127,7 +127,7 @@ impl FlagSlot {
 }
 
 /// A header register, with the value that it is given.
-#[derive(Debug, Drop, PartialEq, Eq)]
+#[derive(Drop, PartialEq, Eq)]
 pub enum HeaderSetting {
     Number(HeaderNumber, i16),
     /// Whether the player has a key.

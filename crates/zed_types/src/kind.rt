@@ -1,7 +1,7 @@
 //! What an element is like.
 
 /// Which way an element may be pushed.
-#[derive(Clone, Copy, Debug, PartialEq, Eq)]
+#[derive(Clone, Copy, PartialEq, Eq)]
 pub enum Push {
     Not,
     Any,
@@ -10,7 +10,7 @@ pub enum Push {
 }
 
 /// What is shown for an element: this project's own characters, not ZZT's graphics.
-#[derive(Clone, Copy, Debug, PartialEq, Eq)]
+#[derive(Clone, Copy, PartialEq, Eq)]
 pub enum Look {
     Character(u8),
     /// The first parameter of the lowest stat there.
@@ -20,11 +20,11 @@ pub enum Look {
 }
 
 /// A kind of tile.
-#[derive(Clone, Copy, Debug)]
+#[derive(Clone, Copy)]
 pub struct Element {
     /// Its word in ZZT-OOP; empty if it has none.
     pub word: &'static str,
-    pub look: Look,
+    pub character: Look,
     /// Whether the player and creatures may go there.
     pub walkable: bool,
     pub push: Push,

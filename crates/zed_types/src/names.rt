@@ -6,14 +6,14 @@ ghost use Rattle.zed_types.specs.Names.{board_of, stat_of, text_of, byte_of};
 use crate::stamp::Stamp;
 
 /// The stamp of the edit that made a thing, and which of the things of its kind that the edit made it is, from 0 on.
-#[derive(Clone, Copy, Debug, PartialEq, Eq, PartialOrd, Ord, Hash)]
+#[derive(Clone, Copy, PartialEq, Eq, PartialOrd, Ord, Hash)]
 pub struct Name {
     pub stamp: Stamp,
     pub index: u32,
 }
 
 /// The name of a board.
-#[derive(Clone, Copy, Debug, PartialEq, Eq, PartialOrd, Ord, Hash)]
+#[derive(Clone, Copy, PartialEq, Eq, PartialOrd, Ord, Hash)]
 pub struct BoardId {
     pub name: Name,
 }
@@ -41,7 +41,7 @@ impl BoardId {
 }
 
 /// The name of a stat.
-#[derive(Clone, Copy, Debug, PartialEq, Eq, PartialOrd, Ord, Hash)]
+#[derive(Clone, Copy, PartialEq, Eq, PartialOrd, Ord, Hash)]
 pub struct StatId {
     pub name: Name,
 }
@@ -58,7 +58,7 @@ impl StatId {
 }
 
 /// The name of a text.
-#[derive(Clone, Copy, Debug, PartialEq, Eq, PartialOrd, Ord, Hash)]
+#[derive(Clone, Copy, PartialEq, Eq, PartialOrd, Ord, Hash)]
 pub struct TextId {
     pub name: Name,
 }
@@ -76,7 +76,7 @@ impl TextId {
 
 /// The name of a byte of a text: the edit is the one that put it there.
 /// The bytes of a text that the Genesis made are numbered from 0 in each text, so such a name is read together with its text.
-#[derive(Clone, Copy, Debug, PartialEq, Eq, PartialOrd, Ord, Hash)]
+#[derive(Clone, Copy, PartialEq, Eq, PartialOrd, Ord)]
 pub struct ElemId {
     pub name: Name,
 }

@@ -9,7 +9,7 @@ use crate::names::BoardId;
 use std::alloc::AllocError;
 
 /// The sides on which a board may have an exit.
-#[derive(Clone, Copy, Debug, PartialEq, Eq)]
+#[derive(Clone, Copy, PartialEq, Eq)]
 pub enum Side {
     North,
     South,
@@ -58,7 +58,7 @@ impl Side {
 }
 
 /// The properties of a board that are one byte.
-#[derive(Clone, Copy, Debug, PartialEq, Eq)]
+#[derive(Clone, Copy, PartialEq, Eq)]
 pub enum BoardByte {
     MaxShots,
     StartX,
@@ -103,7 +103,7 @@ impl BoardByte {
 }
 
 /// The properties of a board that are on or off.
-#[derive(Clone, Copy, Debug, PartialEq, Eq)]
+#[derive(Clone, Copy, PartialEq, Eq)]
 pub enum BoardFlag {
     Dark,
     ReEnter,
@@ -144,7 +144,7 @@ impl BoardFlag {
 }
 
 /// The properties of a board that are strings: a name of at most 50 bytes, and a message of at most 58.
-#[derive(Clone, Copy, Debug, PartialEq, Eq)]
+#[derive(Clone, Copy, PartialEq, Eq)]
 pub enum BoardText {
     Name,
     Message,
@@ -185,7 +185,7 @@ impl BoardText {
 }
 
 /// A register of a board, with the value that it is given.
-#[derive(Debug, Drop, PartialEq, Eq)]
+#[derive(Drop, PartialEq, Eq)]
 pub enum BoardSetting {
     Byte(BoardByte, u8),
     Flag(BoardFlag, bool),

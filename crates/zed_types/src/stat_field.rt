@@ -6,7 +6,7 @@ ghost use Rattle.zed_types.specs.Stat.{stat_byte_index, stat_byte_field, stat_by
 use crate::names::{BoardId, StatId, TextId};
 
 /// The fields of a stat that are one byte.
-#[derive(Clone, Copy, Debug, PartialEq, Eq)]
+#[derive(Clone, Copy, PartialEq, Eq)]
 pub enum StatByte {
     X,
     Y,
@@ -63,7 +63,7 @@ impl StatByte {
 }
 
 /// The fields of a stat that are signed 16-bit numbers.
-#[derive(Clone, Copy, Debug, PartialEq, Eq)]
+#[derive(Clone, Copy, PartialEq, Eq)]
 pub enum StatNumber {
     StepX,
     StepY,
@@ -112,14 +112,14 @@ impl StatNumber {
 }
 
 /// The third parameter of a stat: a byte, or the board that a passage leads to.
-#[derive(Clone, Copy, Debug, PartialEq, Eq)]
+#[derive(Clone, Copy, PartialEq, Eq)]
 pub enum ThirdParameter {
     Byte(u8),
     Board(BoardId),
 }
 
 /// A register of a stat, with the value that it is given.
-#[derive(Clone, Copy, Debug, PartialEq, Eq)]
+#[derive(Clone, Copy, PartialEq, Eq)]
 pub enum StatSetting {
     Byte(StatByte, u8),
     Number(StatNumber, i16),
@@ -130,7 +130,7 @@ pub enum StatSetting {
 }
 
 /// What a new stat is given. Its position is 0, and it has no follower and no leader.
-#[derive(Clone, Copy, Debug, PartialEq, Eq)]
+#[derive(Clone, Copy, PartialEq, Eq)]
 pub struct StatFields {
     /// Its bytes, by `StatByte::index`.
     pub bytes: [u8; 6],

@@ -3,7 +3,7 @@ use crate::names::ElemId;
 use crate::stamp::Stamp;
 
 /// A byte of a text, under its name. A deleted byte stays as a tombstone: it is no longer alive.
-#[derive(Clone, Copy, Debug, PartialEq, Eq)]
+#[derive(Clone, Copy, PartialEq, Eq)]
 pub struct TextByte {
     pub id: ElemId,
     pub byte: u8,
@@ -11,7 +11,7 @@ pub struct TextByte {
 }
 
 /// Bytes `first` to `last`, both included, of the insertion with this stamp.
-#[derive(Clone, Copy, Debug, PartialEq, Eq)]
+#[derive(Clone, Copy, PartialEq, Eq)]
 pub struct ByteRange {
     pub stamp: Stamp,
     pub first: u32,

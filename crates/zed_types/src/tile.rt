@@ -14,7 +14,7 @@ pub const TILES: usize = 1500;
 const _: () = prove!(TILES == COLUMNS * ROWS);
 
 /// What is at one place of a board.
-#[derive(Clone, Copy, Debug, PartialEq, Eq, PartialOrd, Ord, Hash, Default)]
+#[derive(Clone, Copy, Debug, PartialEq, Eq, Default)]
 pub struct Tile {
     pub element: u8,
     pub colour: u8,
@@ -29,14 +29,14 @@ impl Tile {
 }
 
 /// A place of a board: column 1 to 60 and row 1 to 25 are in the table, all others are outside.
-#[derive(Clone, Copy, Debug, PartialEq, Eq, PartialOrd, Ord, Hash)]
+#[derive(Clone, Copy, PartialEq, Eq)]
 pub struct Place {
     pub x: u8,
     pub y: u8,
 }
 
 /// The places in columns `left` to `right` and rows `top` to `bottom`, all included.
-#[derive(Clone, Copy, Debug, PartialEq, Eq)]
+#[derive(Clone, Copy, PartialEq, Eq)]
 pub struct Rectangle {
     pub left: u8,
     pub top: u8,

@@ -61,7 +61,7 @@ pub enum Command<'a> {
 }
 
 /// Why the words are no command.
-#[derive(Debug, Drop)]
+#[derive(Drop)]
 pub enum ParseError {
     Memory,
     /// The words are refused, with the text for the user, which is never empty.

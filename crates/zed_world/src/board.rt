@@ -3,7 +3,7 @@ use crate::stat::StatData;
 use zed_types::{Bytes, Seq, TILES, Tile};
 
 /// What a board has once, beside its name.
-#[derive(Debug, Drop)]
+#[derive(Drop)]
 pub struct Properties {
     /// How many shots of the player may fly at a time.
     pub max_shots: u8,
@@ -24,7 +24,7 @@ pub struct Properties {
 }
 
 /// A board of a world.
-#[derive(Debug, Drop)]
+#[derive(Drop)]
 pub struct BoardData {
     /// At most 50 bytes.
     pub name: Bytes,

@@ -3,7 +3,7 @@ use zed_types::{Bytes, Seq};
 
 /// What comes before the boards: the player's counters, the flags that programs set, and the name
 /// of the world.
-#[derive(Debug, Drop)]
+#[derive(Drop)]
 pub struct Header {
     pub ammo: i16,
     pub gems: i16,

@@ -5,7 +5,7 @@ ghost use Rattle.zed_world.specs.Contents.{standing};
 use zed_types::{Bytes, Tile};
 
 /// The program of a stat.
-#[derive(Debug, Drop)]
+#[derive(Drop)]
 pub enum Code {
     /// The stat has no program.
     None,
@@ -16,7 +16,7 @@ pub enum Code {
 }
 
 /// A stat of a board: something at a place that acts, or that keeps more than its tile.
-#[derive(Debug, Drop)]
+#[derive(Drop)]
 pub struct StatData {
     /// Column 1 to 60; other numbers are outside the table.
     pub x: u8,

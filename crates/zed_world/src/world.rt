@@ -12,7 +12,7 @@ use zed_types::Seq;
 /// A world that some file spells: each number, string and list fits its field, each board, stat and
 /// program that it names is there, and each board fits in one body. Contracts see its header and
 /// the list of its boards.
-#[derive(Debug, Drop)]
+#[derive(Drop)]
 pub struct World {
     header: Header,
     boards: Seq<BoardData>,
