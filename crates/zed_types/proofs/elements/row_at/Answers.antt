@@ -9,4 +9,4 @@ returns-then-n-lt54 c =
 
 pub returns-else-n-lt54 : goal.returns-else-n-lt54
 returns-else-n-lt54 c =
-    rw (index-past rows c.args.n (row_of 54) c.if-n-lt54.false) (record { word = refl; look = refl; walkable = refl; push = refl; destructible = refl })
+    rw (index-past rows c.args.n (row_of 54) c.if-n-lt54.false) (record { word = refl; character = refl; walkable = refl; push = refl; destructible = refl })
