@@ -87,10 +87,10 @@ program_of() {
 }
 
 # Puts a copy of a program under test into the room, so that it stays the same while the test runs, and sets the variables of its name:
-# zzted for the test, and ZZTED for the scripts that the test runs. What isn't there is built.
+# zzted for the test, and ZZTED for the scripts that the test runs.
 tests_program() {
     local at
-    at=$(program_of "$1") || { "$top/scripts/program" --build "$1" && at=$(program_of "$1"); }
+    at=$(program_of "$1")
     mkdir -p "$room/program"
     cp "$at" "$room/program/$1"
     declare -g "$1=$room/program/$1"
