@@ -63,7 +63,7 @@ still_at : (n : ℕ) (c last : Course) → IsStill last.at.play → Ends None n 
 still_at n c last still ends = elim ends [
   | inl over ↦ subst (λ (x : Course). IsStill x.at.play) over.2 still
   | inr more ↦ elim more [
-    | inl idle ↦ going_still c.at.play idle.1
+    | inl idle ↦ going_still c.at.play idle.1.1
     | inr refused ↦ elim refused [
       | inl why ↦ absurd (let no = why.1 in cc)
       | inr many ↦ absurd (let no = many.0 in cc)

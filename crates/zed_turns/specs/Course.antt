@@ -1,5 +1,5 @@
 -- How a playtest goes on, turn by turn.
-use Rattle.std.specs.Prelude.{◌≡◌, ◌⊎◌, ◌≤◌, ℕ, zero, suc, Bool, true, false, List, [], ◌∷◌, ◌++◌, drop, length, Option, Some, None, is_some, Result, Ok, Err, ⊤}
+use Rattle.std.specs.Prelude.{◌≡◌, ◌⊎◌, ◌≤◌, ◌<◌, ℕ, zero, suc, Bool, true, false, List, [], ◌∷◌, ◌++◌, drop, length, Option, Some, None, is_some, Result, Ok, Err, ⊤}
 use Rattle.zed_world.specs.Contents.{Contents}
 use Rattle.zed_play.specs.declared.ending.Ending.{Ending}
 use Rattle.zed_play.specs.declared.ending.Ending.TheVariants.{Left}
@@ -146,13 +146,17 @@ abbrev pub Plays : Option Contents → ℕ → Course → Course → Type 0
 Plays w zero c d = d ≡ c
 Plays w (suc n) c d = (next : Course) × (c.at.play.ending ≡ None) × Advances w false c next × Plays w n next d
 
--- how it ends after so many turns: the playtest is over; nothing is left, or a turn is refused; or no more may be made
+-- after so many turns a playtest goes on, and one turn more may be made
+abbrev pub MayTurn : ℕ → Course → Type 0
+MayTurn n c = (n < most_turns) × (c.at.play.ending ≡ None)
+
+-- how it ends after so many turns: the playtest is over; nothing is left, or a turn is refused; or it isn't over, and no more may be made
 abbrev pub Ends : Option Contents → ℕ → Course → Course → Result ⊤ TurnError → Type 0
 Ends w n c last r =
     ((r ≡ Ok tt) × (is_some c.at.play.ending ≡ true) × (last ≡ c))
-    ⊎ ((r ≡ Ok tt) × (c.at.play.ending ≡ None) × Turns w (Ok false) c last)
-    ⊎ ((e : TurnError) × (r ≡ Err e) × (c.at.play.ending ≡ None) × Turns w (Err e) c last)
-    ⊎ ((r ≡ Err TooManyTurns) × (n ≡ most_turns) × (last ≡ c))
+    ⊎ ((r ≡ Ok tt) × MayTurn n c × Turns w (Ok false) c last)
+    ⊎ ((e : TurnError) × (r ≡ Err e) × MayTurn n c × Turns w (Err e) c last)
+    ⊎ ((r ≡ Err TooManyTurns) × (n ≡ most_turns) × (c.at.play.ending ≡ None) × (last ≡ c))
 
 -- a playtest is played on to its end
 abbrev pub PlaysOn : Option Contents → Course → Course → Result ⊤ TurnError → Type 0

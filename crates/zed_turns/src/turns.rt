@@ -112,7 +112,7 @@ fn turn<A: Atlas, T: Terminal, I: Inputs, C: Chance>(
 /// # Errors
 /// KeyFault where the source of what is typed fails; NoWords where the source of chance fails, or brings
 /// 131,072 words that are too few for one step; ScreenFault where the terminal fails, with a turn made
-/// that isn't drawn; TooManyTurns behind 1,048,576 turns; and Memory.
+/// that isn't drawn; TooManyTurns where 1,048,576 turns didn't end the playtest; and Memory.
 pub fn play_on<A: Atlas, T: Terminal, I: Inputs, C: Chance>(
     alloc: Global,
     atlas: &A,
@@ -146,5 +146,8 @@ pub fn play_on<A: Atlas, T: Terminal, I: Inputs, C: Chance>(
             return Ok(());
         }
     }
-    Err(TurnError::TooManyTurns)
+    match tape.play.ending() {
+        Some(_) => Ok(()),
+        None => Err(TurnError::TooManyTurns),
+    }
 }
