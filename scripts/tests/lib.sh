@@ -76,6 +76,19 @@ tell_counts() {
     [ "$failed" -eq 0 ] && [ "$((passed + untried))" -gt 0 ]
 }
 
+# Runs a test of this folder that is written in Python, with these words, and adds what it counted: its last line says that.
+runs_python() {
+    local said=$room/said.python
+    PYTHONDONTWRITEBYTECODE=1 python3 "$top/scripts/tests/$1" "${@:2}" > "$said" 2>&1 || true
+    if [[ $(tail -n 1 "$said") =~ ^$suite:\ ([0-9]+)\ passed,\ ([0-9]+)\ failed$ ]]; then
+        passed=$((passed + BASH_REMATCH[1])) failed=$((failed + BASH_REMATCH[2]))
+        head -n -1 "$said"
+    else
+        tail -n 20 "$said"
+        fails "$1 ended early"
+    fi
+}
+
 # Prints where a program under test lies: the one that a variable names, as ZZTED for zzted, or the one that would run here.
 program_of() {
     local named=${1^^}
