@@ -1,6 +1,6 @@
 # shellcheck shell=bash
 # What the tests share; each reads it at its head. It counts what passed and failed, compares, finds the programs under test and a
-# compiler, and says what can't be tried on this machine. `room` is a folder for this test only, and `top` the repository. A test ends
+# compiler, and says what isn't tried. The gate (GATE) tries all that the machine can. `room` is a folder for this test only, and `top` the repository. A test ends
 # with `tell_counts`; if it ends before that, a line says where.
 set -Eeuo pipefail
 top=$(cd "$(dirname "${BASH_SOURCE[0]}")/../.." && pwd)
@@ -43,10 +43,46 @@ waits_until() {
     done
 }
 
-# Says what can't be tried here, and why.
-not_tried() {
-    echo "$suite: not tried: $1"
+# Whether this machine has what rows need, by a command that tests for it; if not, says which rows aren't tried, and what it lacks.
+#   can_try 'keys at a terminal' 'there is no script of util-linux' has_script
+can_try() {
+    ! "${@:3}" > /dev/null 2>&1 || return 0
+    echo "$suite: not tried: $1: $2"
     untried=$((untried + 1))
+    return 1
+}
+has_script() {
+    script --version | grep -q util-linux
+}
+has_disks() {
+    unshare -rm true
+}
+has_users() {
+    [ "$(id -u)" -ne 0 ] || command -v setpriv
+}
+
+# Says what isn't tried for another reason. The gate has all that it needs, so there it fails.
+not_tried() {
+    if [ -n "${GATE:-}" ]; then
+        fails "not tried: $1"
+    else
+        echo "$suite: not tried: $1"
+        untried=$((untried + 1))
+    fi
+}
+
+# Whether all is tried, as in the gate; if not, says which part is.
+tries_all() {
+    [ -n "${GATE:-}" ] || { echo "$suite: tries $1, and the gate tries all" && return 1; }
+}
+
+# Runs a command as a user without rights: root has all of them.
+as_user() {
+    if [ "$(id -u)" -eq 0 ]; then
+        setpriv --reuid 65534 --regid 65534 --clear-groups "$@"
+    else
+        "$@"
+    fi
 }
 
 # Prints a complaint of zztool without its second line, if that names a file of the command's words, the base of one, or a stream. Any other
