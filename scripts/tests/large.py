@@ -132,7 +132,7 @@ def takes(world, data):
     is_so("the world that is opened", bytes_of("drawn.zzt") == wanted, True)
     board, stat = next((board, stat) for board in world.boards for stat in board.stats[1:] if has_own_program(board, stat))
     world.score ^= 1
-    board.time_limit ^= 1
+    board.shots ^= 1
     stat.p1 ^= 1
     stat.program += b"\rWhat a large world!\r"
     board.fill(10, 10, 20, 12, (250, 14))
