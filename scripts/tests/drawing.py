@@ -10,7 +10,9 @@ import subprocess
 import sys
 from concurrent.futures import ThreadPoolExecutor
 
+import moves
 import zzt
+from moves import add_stat, change_stat, remove_stat
 from naming import refusal_in
 from zzt import Board, Stat, World
 
@@ -169,38 +171,6 @@ def programs():
     ]
 
 
-def add_stat(board, index, x, y, tile, **fields):
-    """Puts a stat in at a number: what names the stats behind it names them still."""
-
-    def moved(number):
-        return number + 1 if isinstance(number, int) and number >= index else number
-
-    for stat in board.stats:
-        stat.follower, stat.leader, stat.program = moved(stat.follower), moved(stat.leader), moved(stat.program)
-    board.put(x, y, tile)
-    board.stats.insert(index, Stat(x, y, **fields))
-
-
-def remove_stat(board, index):
-    def moved(number):
-        return -1 if number == index else number - 1 if number > index else number
-
-    gone = board.stats[index]
-    heir = None
-    for number, stat in enumerate(board.stats):
-        if stat.program == index and isinstance(stat.program, int):
-            if heir is None:
-                heir, stat.program = number, gone.program
-            else:
-                stat.program = heir
-    for stat in board.stats:
-        stat.follower, stat.leader = moved(stat.follower), moved(stat.leader)
-        if isinstance(stat.program, int) and stat.program > index:
-            stat.program -= 1
-    board.put(gone.x, gone.y, gone.under)
-    del board.stats[index]
-
-
 def move_boards(world, order):
     """Puts boards into another order, where -1 is a new one; exits, passages and the current board go with them."""
     to = {old: new for new, old in enumerate(order)}
@@ -305,11 +275,6 @@ def shapes():
     ]
 
 
-def change_stat(board, number, **fields):
-    for name, value in fields.items():
-        setattr(board.stats[number], name, value)
-
-
 def move_player(board):
     board.put(5, 5, (0, 0))
     board.put(7, 6, (4, 0x1F))
@@ -325,9 +290,7 @@ def counts(said):
     return (int(words[1]), int(words[3])) if len(words) == 5 and words[0] == "0" and words[2] == "taken," else said
 
 
-# drawings that put a stat before the twin, which is made anew then and loses the line that others put into its program meanwhile
-MADE_ANEW = ("a stat in front", "stats that changed places")
-# boards are found by their names, so these are drawn anew
+# boards are found by their names, so the cells of these are drawn anew
 NOT_FOUND = ("boards that exchanged names",)
 
 
@@ -338,13 +301,14 @@ OTHERS = [(x, y) for x in (34, 35) for y in (16, 17)]
 def others_stay(what, world, hall, twin):
     """What others did meanwhile is there: their cells, unless they were drawn over, and the line in front of the twin's program."""
     for number, board in enumerate(world.boards):
-        if board is not hall or what in NOT_FOUND:
+        if board is not hall:
             continue
         seen = world_of("mine.zed").boards[number]
         wanted = [(19, 9) if hall.at(x, y) == (0, 0) else hall.at(x, y) for x, y in OTHERS]
-        is_so(f"{what}: the others' cells", [seen.at(x, y) for x, y in OTHERS], wanted)
+        if what not in NOT_FOUND:
+            is_so(f"{what}: the others' cells", [seen.at(x, y) for x, y in OTHERS], wanted)
         for stat, then in zip(hall.stats, seen.stats):
-            if stat is twin and what not in MADE_ANEW:
+            if stat is twin:
                 is_so(f"{what}: the others' line", then.program, b"#lock\r" + twin.program)
 
 
@@ -552,23 +516,39 @@ def many_boards():
     is_so("all of it", zzt.differences(world_of("mine.zed"), zzt.normal(zzt.read(bytes_of("mine.zzt")))), "nothing")
 
 
+def author(name, replica, change_it, begun="start"):
+    """An author takes a drawing into a file of their own: it shows the world that was drawn."""
+    shutil.copy(at(f"{begun}.zed"), at(f"{name}.zed"))
+    zztool("open", "--force", f"{name}.zed", f"{name}.zzt")
+    world = zzt.read(bytes_of(f"{name}.zzt"))
+    change_it(world)
+    put(f"{name}.zzt", zzt.write(world, 7))
+    told = counts(zztool("take", f"{name}.zed", replica, f"{name}.zzt"))
+    is_so(f"{name}: the world", zzt.differences(world_of(f"{name}.zed"), zzt.normal(world)), "nothing")
+    return told
+
+
+def merged(one, other, begun="start"):
+    """The world of two authors' files, merged in either order."""
+    is_so("first author", isinstance(author("one", 1, one, begun), tuple), True)
+    is_so("second author", isinstance(author("two", 2, other, begun), tuple), True)
+    is_so("merged", zzted("merge", "both.zed", 7, "one.zed", "two.zed")[:2], "0 ")
+    is_so("merged", zzted("merge", "back.zed", 7, "two.zed", "one.zed")[:2], "0 ")
+    is_so("merged in either order", bytes_of("both.zed"), bytes_of("back.zed"))
+    return world_of("both.zed")
+
+
+def moved_objects():
+    """One author moves objects, and another changes their programs meanwhile: the lines of both are in the objects that were moved."""
+    put("yard.zzt", zzt.write(moves.yard()))
+    is_so("new", zzted("new", "yard.zed", 7, "--from", "yard.zzt"), "0 1 edits")
+    for what, change_it, then in moves.ROWS:
+        seen = moves.programs_in(merged(change_it, moves.changes_programs, "yard"))
+        for place, program in {**dict.fromkeys(seen), **moves.THEN, **then}.items():
+            is_so(f"{what}: the program at {place}", seen.get(place), program)
+
+
 def two_authors():
-    def author(name, replica, change_it):
-        shutil.copy(at("start.zed"), at(f"{name}.zed"))
-        zztool("open", "--force", f"{name}.zed", f"{name}.zzt")
-        world = zzt.read(bytes_of(f"{name}.zzt"))
-        change_it(world)
-        put(f"{name}.zzt", zzt.write(world, 7))
-        return counts(zztool("take", f"{name}.zed", replica, f"{name}.zzt"))
-
-    def merged(one, other):
-        is_so("first author", isinstance(author("one", 1, one), tuple), True)
-        is_so("second author", isinstance(author("two", 2, other), tuple), True)
-        is_so("merged", zzted("merge", "both.zed", 7, "one.zed", "two.zed")[:2], "0 ")
-        is_so("merged", zzted("merge", "back.zed", 7, "two.zed", "one.zed")[:2], "0 ")
-        is_so("merged in either order", bytes_of("both.zed"), bytes_of("back.zed"))
-        return world_of("both.zed")
-
     def hall(change_it):
         return lambda world: change_it(world.boards[1])
 
@@ -781,6 +761,7 @@ def main():
         draws(what, change_it, wanted, longest=256)
     lenient()
     two_authors()
+    moved_objects()
     goes_on()
     others_renumber()
     over_dead_bytes()

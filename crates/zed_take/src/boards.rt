@@ -60,6 +60,14 @@ impl Boards {
         self.names.as_slice()
     }
 
+    /// The number that a board had before, none for a new one.
+    pub(crate) fn number_before(&self, number: usize) -> Option<usize> {
+        match *self.origins.get(number)? {
+            Origin::Old(i) => Some(i),
+            Origin::New(_) => None,
+        }
+    }
+
     /// How the board of a number is seen, and what it was, as one of the old ones or as it is added.
     pub(crate) fn origin<'w>(
         &'w self,

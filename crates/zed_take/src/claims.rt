@@ -1,4 +1,5 @@
 //! Which texts of the document stay with which stats.
+use crate::origins::Origins;
 use crate::planning::Task;
 use crate::programs::{owner_of, program};
 use std::alloc::{AllocError, Global};
@@ -44,16 +45,20 @@ pub(crate) struct Claims<'w> {
     kept: Vec<Vec<Option<TextId>>>,
 }
 
-// What a stat would keep: the text that its partner has.
-fn wish<'w>(tasks: &[Task<'w>], board: usize, number: usize) -> Option<Claim<'w>> {
+// What a stat would keep: the text of the stat that it comes from.
+fn wish<'w>(
+    tasks: &[Task<'w>],
+    origins: &Origins<'w>,
+    board: usize,
+    number: usize,
+) -> Option<Claim<'w>> {
     let task = tasks.get(board)?;
-    let partner = (*task.partners.get(number)?)?;
-    let seen = task.seen.stats.get(partner)?;
+    let origin = origins.of(board, number)?;
     Some(Claim {
-        text: seen.text?,
+        text: origin.text?,
         board,
         is_player: number == 0,
-        before: program(task.before, partner),
+        before: origin.program,
         after: program(task.after, number),
         earlier: None,
     })
@@ -86,10 +91,15 @@ fn turn_of(tasks: &[Task], claim: &Claim, number: usize) -> Option<Turn> {
 }
 
 impl<'w> Claims<'w> {
-    fn hear(&mut self, tasks: &[Task<'w>], turn: Turn) -> Result<(), AllocError> {
+    fn hear(
+        &mut self,
+        tasks: &[Task<'w>],
+        origins: &Origins<'w>,
+        turn: Turn,
+    ) -> Result<(), AllocError> {
         for (board, task) in tasks.iter().enumerate() {
-            for number in 0..task.partners.len() {
-                if let Some(claim) = wish(tasks, board, number) {
+            for number in 0..task.after.stats.as_slice().len() {
+                if let Some(claim) = wish(tasks, origins, board, number) {
                     if turn_of(tasks, &claim, number) == Some(turn) {
                         self.take(claim, number)?;
                     }
@@ -130,19 +140,23 @@ impl<'w> Claims<'w> {
     }
 
     /// Decides for all stats of all boards. A program that stays as it is goes before one that changes, and this before none.
-    pub(crate) fn of(alloc: Global, tasks: &[Task<'w>]) -> Result<Claims<'w>, AllocError> {
+    pub(crate) fn of(
+        alloc: Global,
+        tasks: &[Task<'w>],
+        origins: &Origins<'w>,
+    ) -> Result<Claims<'w>, AllocError> {
         let mut kept = Vec::new(alloc);
         for task in tasks {
-            kept.push(vec![in alloc; None; task.partners.len()]?)?;
+            kept.push(vec![in alloc; None; task.after.stats.as_slice().len()]?)?;
         }
         let mut claims = Claims {
             claims: Vec::new(alloc),
             latest: BTreeMap::new(alloc),
             kept,
         };
-        claims.hear(tasks, Turn::Unchanged)?;
-        claims.hear(tasks, Turn::Changed)?;
-        claims.hear(tasks, Turn::Empty)?;
+        claims.hear(tasks, origins, Turn::Unchanged)?;
+        claims.hear(tasks, origins, Turn::Changed)?;
+        claims.hear(tasks, origins, Turn::Empty)?;
         Ok(claims)
     }
 

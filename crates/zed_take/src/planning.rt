@@ -4,7 +4,8 @@ use crate::boards::{Boards, plan_boards};
 use crate::cells::plan_cells;
 use crate::claims::Claims;
 use crate::header::{plan_current_board, plan_header};
-use crate::pairing::pair_stats;
+use crate::origins::Origins;
+use crate::pairing::{StatPairs, pair_stats};
 use crate::plan::Plan;
 use crate::plan_error::PlanError;
 use crate::programs::{owner_of, program};
@@ -24,8 +25,9 @@ pub(crate) struct Task<'w> {
     pub seen: &'w SeenBoard,
     pub before: &'w BoardData,
     pub after: &'w BoardData,
-    /// The partner of each stat among those before.
-    pub partners: Vec<Option<usize>>,
+    /// Its number before, none where it is new.
+    pub number_before: Option<usize>,
+    pub stats: StatPairs,
 }
 
 // What is to be done to each board.
@@ -45,7 +47,8 @@ fn tasks_of<'w>(
             seen,
             before: old,
             after: board,
-            partners: pair_stats(alloc, old, board)?,
+            number_before: boards.number_before(j),
+            stats: pair_stats(alloc, old, board)?,
         })?;
     }
     Ok(tasks)
@@ -107,7 +110,8 @@ pub(crate) fn plan_edits(
     let seen = boards_seen(alloc, view)?;
     let boards = plan_boards(alloc, &mut plan, &seen, before.boards(), after.boards())?;
     let tasks = tasks_of(alloc, &boards, &seen, before, after)?;
-    let claims = Claims::of(alloc, &tasks)?;
+    let origins = Origins::find(alloc, &tasks, &seen, before.boards())?;
+    let claims = Claims::of(alloc, &tasks, &origins)?;
     let names = boards.names();
     for (board, task) in tasks.iter().enumerate() {
         plan_board(alloc, &mut plan, view, names, &claims, board, task)?;

@@ -175,7 +175,7 @@ fn plan_new(
 
 fn plan_removals(plan: &mut Plan, task: &Task) -> Result<(), PlanError> {
     for (i, seen) in task.seen.stats.iter().enumerate() {
-        if i > 0 && !task.partners.contains(&Some(i)) {
+        if i > 0 && !task.stats.partners.contains(&Some(i)) {
             plan.add(Op::StatRemove(seen.id))?;
         }
     }
@@ -194,7 +194,7 @@ pub(crate) fn plan_stats(
     let mut names = Vec::new(alloc);
     let mut stats = Vec::new(alloc);
     let all = task.after.stats.as_slice().iter();
-    for ((after, partner), text) in all.zip(task.partners.iter()).zip(texts.iter()) {
+    for ((after, partner), text) in all.zip(task.stats.partners.iter()).zip(texts.iter()) {
         let seen = match partner {
             Some(i) => {
                 let before = task.before.stats.as_slice().get(*i);
