@@ -29,48 +29,29 @@ const SLOTS: [FlagSlot; 10] = [
     FlagSlot::Tenth,
 ];
 
-fn plan_number(
-    plan: &mut Plan,
-    field: HeaderNumber,
-    before: i16,
-    after: i16,
-) -> Result<(), PlanError> {
-    if before != after {
-        plan.set_header(HeaderSetting::Number(field, after))?;
+fn plan_numbers(plan: &mut Plan, before: &Header, after: &Header) -> Result<(), PlanError> {
+    let (was, is) = (before, after);
+    let numbers = [
+        (HeaderNumber::Ammo, was.ammo, is.ammo),
+        (HeaderNumber::Gems, was.gems, is.gems),
+        (HeaderNumber::Health, was.health, is.health),
+        (HeaderNumber::Torches, was.torches, is.torches),
+        (HeaderNumber::TorchTicks, was.torch_ticks, is.torch_ticks),
+        (
+            HeaderNumber::EnergizerTicks,
+            was.energizer_ticks,
+            is.energizer_ticks,
+        ),
+        (HeaderNumber::Score, was.score, is.score),
+        (HeaderNumber::TimePassed, was.time_passed, is.time_passed),
+        (HeaderNumber::Hundredths, was.hundredths, is.hundredths),
+    ];
+    for (field, was, is) in &numbers {
+        if was != is {
+            plan.set_header(HeaderSetting::Number(*field, *is))?;
+        }
     }
     Ok(())
-}
-
-fn plan_numbers(plan: &mut Plan, before: &Header, after: &Header) -> Result<(), PlanError> {
-    plan_number(plan, HeaderNumber::Ammo, before.ammo, after.ammo)?;
-    plan_number(plan, HeaderNumber::Gems, before.gems, after.gems)?;
-    plan_number(plan, HeaderNumber::Health, before.health, after.health)?;
-    plan_number(plan, HeaderNumber::Torches, before.torches, after.torches)?;
-    plan_number(
-        plan,
-        HeaderNumber::TorchTicks,
-        before.torch_ticks,
-        after.torch_ticks,
-    )?;
-    plan_number(
-        plan,
-        HeaderNumber::EnergizerTicks,
-        before.energizer_ticks,
-        after.energizer_ticks,
-    )?;
-    plan_number(plan, HeaderNumber::Score, before.score, after.score)?;
-    plan_number(
-        plan,
-        HeaderNumber::TimePassed,
-        before.time_passed,
-        after.time_passed,
-    )?;
-    plan_number(
-        plan,
-        HeaderNumber::Hundredths,
-        before.hundredths,
-        after.hundredths,
-    )
 }
 
 fn plan_keys(plan: &mut Plan, before: &Header, after: &Header) -> Result<(), PlanError> {

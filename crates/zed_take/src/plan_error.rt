@@ -3,16 +3,14 @@ ghost use Rattle.std.specs.Prelude.{◌≡◌};
 ghost use Rattle.zed_take.specs.declared.plan_error.PlanError.TheVariants.{Memory};
 
 use std::alloc::{AllocError, AllocFailed};
-use thiserror::Error;
 
-/// Why no edits could be planned.
-#[derive(Clone, Copy, Debug, PartialEq, Eq, Error)]
+/// Why no edits could be planned. `TakeError` tells it.
+#[derive(Clone, Copy)]
 pub enum PlanError {
-    #[error("out of memory")]
     Memory,
-    #[error("no time is left for so many edits")]
+    /// No time is left for so many edits.
     ClockSpent,
-    #[error("the edits do not lead to the world")]
+    /// The edits don't lead to the world.
     NotTaken,
 }
 

@@ -41,55 +41,39 @@ fn shown_p3(
     }
 }
 
-fn plan_byte(
-    plan: &mut Plan,
-    stat: StatId,
-    field: StatByte,
-    before: u8,
-    after: u8,
-) -> Result<(), PlanError> {
-    if before == after {
-        return Ok(());
-    }
-    plan.set_stat(stat, StatSetting::Byte(field, after))
-}
-
-fn plan_number(
-    plan: &mut Plan,
-    stat: StatId,
-    field: StatNumber,
-    before: i16,
-    after: i16,
-) -> Result<(), PlanError> {
-    if before == after {
-        return Ok(());
-    }
-    plan.set_stat(stat, StatSetting::Number(field, after))
-}
-
+// Plans to set the values of a stat that differ.
 fn plan_values(
     plan: &mut Plan,
     stat: StatId,
     before: &StatData,
     after: &StatData,
 ) -> Result<(), PlanError> {
-    plan_byte(plan, stat, StatByte::X, before.x, after.x)?;
-    plan_byte(plan, stat, StatByte::Y, before.y, after.y)?;
-    plan_number(plan, stat, StatNumber::StepX, before.step_x, after.step_x)?;
-    plan_number(plan, stat, StatNumber::StepY, before.step_y, after.step_y)?;
-    plan_number(plan, stat, StatNumber::Cycle, before.cycle, after.cycle)?;
-    plan_byte(plan, stat, StatByte::P1, before.p1, after.p1)?;
-    plan_byte(plan, stat, StatByte::P2, before.p2, after.p2)?;
     let (was, is) = (before.under, after.under);
-    plan_byte(plan, stat, StatByte::UnderElement, was.element, is.element)?;
-    plan_byte(plan, stat, StatByte::UnderColour, was.colour, is.colour)?;
-    plan_number(
-        plan,
-        stat,
-        StatNumber::Position,
-        before.position,
-        after.position,
-    )
+    let bytes = [
+        (StatByte::X, before.x, after.x),
+        (StatByte::Y, before.y, after.y),
+        (StatByte::P1, before.p1, after.p1),
+        (StatByte::P2, before.p2, after.p2),
+        (StatByte::UnderElement, was.element, is.element),
+        (StatByte::UnderColour, was.colour, is.colour),
+    ];
+    for (field, before, after) in &bytes {
+        if before != after {
+            plan.set_stat(stat, StatSetting::Byte(*field, *after))?;
+        }
+    }
+    let numbers = [
+        (StatNumber::StepX, before.step_x, after.step_x),
+        (StatNumber::StepY, before.step_y, after.step_y),
+        (StatNumber::Cycle, before.cycle, after.cycle),
+        (StatNumber::Position, before.position, after.position),
+    ];
+    for (field, before, after) in &numbers {
+        if before != after {
+            plan.set_stat(stat, StatSetting::Number(*field, *after))?;
+        }
+    }
+    Ok(())
 }
 
 // The number of a stat among others.
@@ -169,7 +153,10 @@ fn plan_new(
     };
     let stamp = plan.add(Op::StatAdd(task.seen.id, fields))?;
     let stat = StatId::new(stamp, 0);
-    plan_number(plan, stat, StatNumber::Position, 0, after.position)?;
+    if after.position != 0 {
+        let position = StatSetting::Number(StatNumber::Position, after.position);
+        plan.set_stat(stat, position)?;
+    }
     Ok(stat)
 }
 
