@@ -503,6 +503,8 @@ def many_boards():
     world = start()
     hundred(world)
     put("many.zzt", zzt.write(world))
+    if os.path.exists(at("mine.zed")):
+        os.remove(at("mine.zed"))
     is_so("new of many boards", zzted("new", "mine.zed", 7, "--from", "many.zzt"), "0 1 edits")
     is_so("open", zztool("open", "--force", "mine.zed", "mine.zzt")[:2], "0 ")
 

@@ -118,6 +118,8 @@ def world_of(programs):
 
 def begins(name, world):
     put("made.zzt", zzt.write(world))
+    if os.path.exists(at(name)):
+        os.remove(at(name))
     is_so("new", zzted("new", name, 7, "--from", "made.zzt"), "0 1 edits")
 
 

@@ -1,15 +1,16 @@
 -- What the folder of a file that is to be written holds.
-use Rattle.std.specs.Prelude.{◌≡◌, ◌⊎◌, ℕ, Bool, true, false, List, [], ◌++◌, Option, Some, None, IsSome, option_map}
-use Rattle.std.specs.Option.{option_or}
+use Rattle.std.specs.Prelude.{◌≡◌, ◌⊎◌, ℕ, Bool, true, false, if◌then◌else◌, List, [], ◌∷◌, ◌++◌, nat_eq, Option, Some, None, IsSome, option_map}
+use Rattle.std.specs.Cmp.Lexicographic.{pointwise}
+use Rattle.std.specs.List.{list_any}
 use Rattle.zed_disk.specs.declared.folder.Old.{Old}
 use Rattle.zed_disk.specs.declared.folder.Old.TheVariants.{Dropped, Kept}
 
--- What stands in the file's place, the new file beside it, the old file that is kept beside it, and whether the first two are on
--- the disk as they are.
+-- What stands in the file's place, the new file beside it, the old files that are kept beside it, each under a name of its own, and
+-- whether the first two are on the disk as they are.
 pub record Held : Type 0 where
   pub place : Option (List ℕ)
   pub beside : Option (List ℕ)
-  pub kept : Option (List ℕ)
+  pub kept : List (List ℕ)
   pub synced : Bool
   pub settled : Bool
 
@@ -18,7 +19,7 @@ abbrev pub place_of : Held → Option (List ℕ)
 place_of h = h.place
 
 -- What stands in the place, and what is kept beside it: all that authors see.
-abbrev pub seen_of : Held → Option (List ℕ) × Option (List ℕ)
+abbrev pub seen_of : Held → Option (List ℕ) × List (List ℕ)
 seen_of h = (h.place, h.kept)
 
 -- The new file.
@@ -49,20 +50,24 @@ IsWhole h = IsSome h.beside × (h.synced ≡ true)
 abbrev pub none_beside : Held → Held
 none_beside h = record h { beside = None; synced = false }
 
--- What stands in the place is kept beside it too; where nothing stands there, what was kept before.
-abbrev pub with_kept : Held → Held
-with_kept h = record h { kept = option_or h.place h.kept }
+-- What was kept before, and one more file; the same bytes are kept once.
+unfoldable pub kept_with : Option (List ℕ) → List (List ℕ) → List (List ℕ)
+kept_with None kept = kept
+kept_with (Some bytes) kept = if list_any (pointwise nat_eq bytes) kept then kept else kept ++ bytes ∷ []
 
--- What a write keeps of the old file: nothing beside what was kept before, or all of it.
+-- What stands in the place is kept beside it too.
+abbrev pub with_kept : Held → Held
+with_kept h = record h { kept = kept_with h.place h.kept }
+
+-- What a write keeps: what was kept before, and the old file too, if that is asked for.
 abbrev pub kept_by : Old → Held → Held
 kept_by Dropped h = h
 kept_by Kept h = with_kept h
 
--- Where a write is refused the place is as it was, and so is what is kept; but where the old file was to be kept, that may be gone,
--- or what stands in the place.
+-- Where a write is refused the place is as it was, and so is what is kept; but if the old file was to be kept, it may be already.
 abbrev pub IsUnwritten : Old → Held → Held → Type 0
 IsUnwritten Dropped h i = (i.place ≡ h.place) × (i.kept ≡ h.kept)
-IsUnwritten Kept h i = (i.place ≡ h.place) × ((i.kept ≡ h.kept) ⊎ ((i.kept ≡ None) ⊎ (i.kept ≡ h.place)))
+IsUnwritten Kept h i = (i.place ≡ h.place) × ((i.kept ≡ h.kept) ⊎ (i.kept ≡ kept_with h.place h.kept))
 
 -- A folder that tells what it holds still does, and holds what is so related to that.
 abbrev pub StillTells : (Held → Held → Type 0) → Option Held → Option Held → Type 0

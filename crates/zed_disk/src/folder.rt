@@ -10,12 +10,12 @@ use std::io;
 pub enum Old {
     /// It is gone.
     Dropped,
-    /// It is kept beside the new one, in place of what was kept before.
+    /// It is kept beside the new one, and so is all that was kept before.
     Kept,
 }
 
 /// The folder of one file that is to be written: what is in the file's place, the new file beside
-/// it, and the old file that is kept beside it.
+/// it, and the old files that are kept beside it.
 pub trait Folder {
     /// What it holds, or none if it doesn't say.
     ghost told: { Self → Option Held };
@@ -48,7 +48,9 @@ pub trait Folder {
         ensures asked { Went (Sync ∷ []) (steps self.old) (steps self.new) }
         ensures faults { has_failed self.new ≡ (is_err result || has_failed self.old) };
 
-    /// Gives the file in the place a second name beside it, in place of an earlier file of that name, and brings that onto the disk.
+    /// Gives the file in the place a second name beside it, which no file has, and brings that onto
+    /// the disk. If a file that is kept there has the same bytes, no other is made. What was kept
+    /// before stays, under its names.
     fn keep(&mut self) -> io::Result<()>
         ensures result { OnOk result (told self.new ≡ option_map with_kept (told self.old)) }
         ensures kept { OnErr result (StillTells (IsUnwritten Old.Kept) (told self.old) (told self.new)) }
@@ -114,10 +116,10 @@ fn take_place<F: Folder>(folder: &mut F, old: Old, bytes: &[u8]) -> io::Result<(
     folder.rename()
 }
 
-/// Writes a file: afterwards it has these bytes, or is as it was. The old file is dropped or kept
-/// beside it; if it is dropped, what was kept before stays. The only refusal is that a step failed.
-/// Then the new file is removed, and the file is as it was, unless only the last step failed. If
-/// the old file was to be kept, then the kept file is the old one, the one kept before, or none.
+/// Writes a file: afterwards it has these bytes, or is as it was. The old file is dropped, or kept
+/// beside it; the same bytes are kept once, and what was kept before stays. The only refusal is that
+/// a step failed. Then the new file is removed, and the file is as it was, unless only the last step
+/// failed; the old file may be kept already.
 /// The steps, each asked for once, in order: the new file is made, filled and brought onto the
 /// disk; the old one is kept, if asked for; the new one is renamed, and the place is brought onto
 /// the disk. After the first step that fails, the new file is removed, and nothing else is done.

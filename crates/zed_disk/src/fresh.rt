@@ -2,7 +2,7 @@
 ghost use Rattle.std.specs.Prelude.{◌≡◌, ◌||◌, None, is_err};
 
 use crate::folder::{Folder, Old, replace};
-use crate::keeping::{Beginning, keep, old_one};
+use crate::keeping::{KeptName, keep};
 use crate::named::{FoundFile, is_at};
 use std::fs::{self, File, Metadata, OpenOptions, Permissions};
 use std::io::{self, ErrorKind, Write};
@@ -24,12 +24,20 @@ pub(crate) const OWN: u32 = 0o600;
 /// The permissions of a new file if there is no old one.
 const COMMON: u32 = 0o666;
 
+/// An old file that is to be kept, and its name then.
+#[derive(Drop)]
+struct Keeping<'a> {
+    old: &'a mut File,
+    name: &'a mut KeptName,
+}
+
 /// A real folder. It doesn't say what it holds, only whether a step of it failed.
 #[derive(Drop)]
 struct RealFolder<'a> {
     rt: &'a HostRuntime,
     found: &'a FoundFile,
     old: Option<Metadata>,
+    keeping: Option<Keeping<'a>>,
     folder: File,
     fresh: Option<File>,
     has_failed: bool,
@@ -128,8 +136,16 @@ fn sync_folder(folder: &File) -> io::Result<()> {
 }
 
 // Keeps the file in a place, and brings that onto the disk: after a stop of the machine nobody finds the new file without it.
-fn keep_in(rt: &HostRuntime, found: &FoundFile, folder: &File) -> io::Result<()> {
-    keep(rt, found)?;
+fn keep_in(
+    rt: &HostRuntime,
+    found: &FoundFile,
+    keeping: &mut Option<Keeping<'_>>,
+    folder: &File,
+) -> io::Result<()> {
+    let Some(keeping) = keeping else {
+        return Err(missing());
+    };
+    keep(rt, found, keeping.name, keeping.old)?;
     sync_folder(folder)
 }
 
@@ -167,7 +183,7 @@ impl Folder for RealFolder<'_> {
     }
 
     fn keep(&mut self) -> io::Result<()> {
-        let kept = keep_in(self.rt, self.found, &self.folder);
+        let kept = keep_in(self.rt, self.found, &mut self.keeping, &self.folder);
         note(&mut self.has_failed, &kept);
         kept
     }
@@ -205,12 +221,14 @@ fn folder_at<'a>(
     rt: &'a HostRuntime,
     found: &'a FoundFile,
     old: Option<Metadata>,
+    keeping: Option<Keeping<'a>>,
 ) -> io::Result<RealFolder<'a>> {
     let folder = fs::open(rt, found.folder())?;
     Ok(RealFolder {
         rt,
         found,
         old,
+        keeping,
         folder,
         fresh: None,
         has_failed: false,
@@ -222,14 +240,14 @@ fn folder_at<'a>(
 ///
 /// # Errors
 /// A device failed, or the place can't be written.
-pub fn write(
-    rt: &HostRuntime,
+pub fn write<'a>(
+    rt: &'a HostRuntime,
     name: &str,
-    found: io::Result<&FoundFile>,
+    found: io::Result<&'a FoundFile>,
     bytes: &[u8],
 ) -> io::Result<()> {
     let Some(mut file) = opened(rt, name)? else {
-        return replace(&mut folder_at(rt, found?, None)?, Old::Dropped, bytes);
+        return replace(&mut folder_at(rt, found?, None, None)?, Old::Dropped, bytes);
     };
     let old = file.metadata()?;
     if !old.is_file() {
@@ -238,31 +256,30 @@ pub fn write(
     let found = found?;
     // A file that has no name any more can't be replaced.
     fs::symlink_metadata(rt, found.path())?;
-    replace(&mut folder_at(rt, found, Some(old))?, Old::Dropped, bytes)
+    replace(
+        &mut folder_at(rt, found, Some(old), None)?,
+        Old::Dropped,
+        bytes,
+    )
 }
 
-/// Writes the file of a name as `write` does, and keeps the old file beside the new one if it
-/// begins with these bytes. Both have the same owner and permissions, and nobody else writes there
-/// in between.
+/// Writes the file of a name as `write` does, and keeps the old file, which is open, beside the new
+/// one. Both have the same owner and permissions.
 ///
 /// # Errors
 /// Those of `write`, or the old file can't be kept. Then the old file stays in its place.
-pub fn write_keeping(
-    rt: &HostRuntime,
+pub fn write_keeping<'a>(
+    rt: &'a HostRuntime,
     name: &str,
-    found: io::Result<&FoundFile>,
-    beginning: &Beginning,
+    found: &'a FoundFile,
+    old: &'a mut File,
+    kept: &'a mut KeptName,
     bytes: &[u8],
 ) -> io::Result<()> {
-    let found = match found {
-        Ok(found) => found,
-        Err(error) => return write(rt, name, Err(error), bytes),
-    };
-    let Some(old) = old_one(rt, name, found, beginning)? else {
-        return write(rt, name, Ok(found), bytes);
-    };
     // as there: a file that may not be written isn't replaced
     OpenOptions::new().write(true).open(rt, name)?;
-    let mut folder = folder_at(rt, found, Some(old.metadata()?))?;
+    let metadata = old.metadata()?;
+    let keeping = Keeping { old, name: kept };
+    let mut folder = folder_at(rt, found, Some(metadata), Some(keeping))?;
     replace(&mut folder, Old::Kept, bytes)
 }

@@ -11,5 +11,5 @@ mod named;
 pub use folder::{Folder, Old, replace};
 pub use fresh::{write, write_keeping};
 pub use hold::{held, stands};
-pub use keeping::{Beginning, is_kept};
+pub use keeping::KeptName;
 pub use named::{FoundFile, NamedFile, leads_to};

@@ -1,5 +1,5 @@
 //! The place of a file that a command writes: its path after symbolic links, its folder, the name
-//! of the new file that takes its place, and the name under which the old one is kept.
+//! of the new file that takes its place.
 ghost use Rattle.std.specs.Io.{StartsWith};
 
 use crate::leftover::{BEGINNING, clear, is_new_name};
@@ -30,7 +30,6 @@ pub struct FoundFile {
     folder: String,
     fresh: String,
     spare: String,
-    kept: String,
 }
 
 impl FoundFile {
@@ -52,11 +51,6 @@ impl FoundFile {
     /// A second new file beside it, for a copy of the file.
     pub fn spare(&self) -> &str {
         self.spare.as_str()
-    }
-
-    /// The old file that is kept beside it: its path and a tilde.
-    pub fn kept(&self) -> &str {
-        self.kept.as_str()
     }
 }
 
@@ -130,13 +124,11 @@ fn find(rt: &HostRuntime, name: &str) -> io::Result<FoundFile> {
     clear(rt, folder.as_str())?;
     let fresh = fresh_in(rt, folder.as_str())?;
     let spare = format!(in rt.alloc(); "{fresh}-0")?;
-    let kept = format!(in rt.alloc(); "{path}~")?;
     Ok(FoundFile {
         path,
         folder,
         fresh,
         spare,
-        kept,
     })
 }
 

@@ -19,21 +19,11 @@ pub(crate) fn endless() -> io::Error
     io::Error::new(ErrorKind::TimedOut, "it doesn't end")
 }
 
-/// A file that another word names too, or whose copy would take the place of another one's file.
+/// A file that another word names too.
 pub(crate) fn named_twice() -> io::Error
     ensures { error_kind result ≡ ErrorKind.ResourceBusy }
 {
     io::Error::new(ErrorKind::ResourceBusy, "two words name the same file")
-}
-
-/// A file whose copy would take the place of one that was read.
-pub(crate) fn copy_was_read() -> io::Error
-    ensures { error_kind result ≡ ErrorKind.ResourceBusy }
-{
-    io::Error::new(
-        ErrorKind::ResourceBusy,
-        "its copy would replace a file that was read",
-    )
 }
 
 /// What is told of a file that doesn't stand where it was read.

@@ -5,7 +5,7 @@ ghost use Rattle.zed_system.specs.Counted.{called_in, failed_in, nothing_failed}
 
 use crate::causes::{named_twice, of_file};
 use crate::last::{Ending, Front, LastCall};
-use crate::place::{Place, Way};
+use crate::place::Place;
 use crate::reading::{Stop, read_whole};
 use std::fs;
 use std::io::{self, ErrorKind, Write};
@@ -71,20 +71,52 @@ impl SystemHost {
         self.complaint.as_slice()
     }
 
-    /// Lets the command write the file of a name. If an edit file is there then, it is kept beside
-    /// it, under its name and a tilde.
+    /// Tells standard error which old file was kept, and under which name; nothing if none was. Call
+    /// this once, at the end of a command.
+    pub fn tell_kept(&self) {
+        for place in &self.places {
+            let line = place.told();
+            if !line.is_empty() {
+                let _ = self.rt.stderr().write_all(line.as_bytes());
+            }
+        }
+    }
+
+    /// Lets the command write the file of a name. If an edit file is there then, and can't be read
+    /// or has an edit that the new file lacks, it is kept beside that, under its name and a tilde,
+    /// or a tilde and a number. No file that was kept before is replaced.
     ///
-    /// This name isn't written if its file was allowed before, by another name or in another way,
-    /// or is the one as which an earlier one would be kept. Allowing a name again changes nothing.
+    /// This name isn't written if its file was allowed before, by another name or in another way.
+    /// Allowing a name again changes nothing.
     ///
     /// # Errors
     /// Only `OutOfMemory`: this takes all memory that a write needs. Any other failure comes when
-    /// the file is written.
+    /// the file is written. If memory is refused then for the look at an old file, that is kept.
     pub fn writes(&mut self, name: &str) -> io::Result<()>
         ensures kept { self.new ≡ self.old }
     {
         let file = NamedFile::of(&self.rt, name)?;
-        self.admit(name, Place::new(file, Way::Writes))
+        let place = Place::written(&self.rt, name, file, None)?;
+        self.admit(name, place)
+    }
+
+    /// Lets the command write the file of a name, as by `writes`. A drawing is kept too, unless the
+    /// new file has the same bytes: a file beside which its base lies, under its name and `.base`.
+    ///
+    /// # Errors
+    /// Only `OutOfMemory`, as for `writes`.
+    pub fn saves(&mut self, name: &str) -> io::Result<()>
+        ensures kept { self.new ≡ self.old }
+    {
+        let file = NamedFile::of(&self.rt, name)?;
+        let place = self.saved(name, file)?;
+        self.admit(name, place)
+    }
+
+    // A place whose edit file is kept, or its drawing.
+    fn saved(&self, name: &str, file: NamedFile) -> io::Result<Place> {
+        let base = format!(in self.rt.alloc(); "{name}.base")?;
+        Place::written(&self.rt, name, file, Some(base))
     }
 
     /// Lets the command read the file of a name and write it again. From the read on it is held:
@@ -99,12 +131,12 @@ impl SystemHost {
         ensures kept { self.new ≡ self.old }
     {
         let file = NamedFile::of(&self.rt, name)?;
-        self.admit(name, Place::new(file, Way::Edits))
+        self.admit(name, Place::edited(file))
     }
 
     /// Lets the command write the file of a name, while it reads others over links. If one of these
     /// is that file itself, by any name, it is held from now on, as by `edits`; otherwise it is
-    /// written as by `writes`. If this can't be found out, only a device is written there.
+    /// written as by `saves`. If this can't be found out, only a device is written there.
     ///
     /// # Errors
     /// Only `OutOfMemory`, as for `writes`.
@@ -113,10 +145,10 @@ impl SystemHost {
     {
         let file = NamedFile::of(&self.rt, name)?;
         let place = match file.is_led_to(&self.rt, links) {
-            Ok(true) => Place::new(file, Way::Edits),
-            Ok(false) => Place::new(file, Way::Writes),
+            Ok(true) => Place::edited(file),
+            Ok(false) => self.saved(name, file)?,
             Err(error) if error.kind() == ErrorKind::OutOfMemory => return Err(error),
-            Err(_) => Place::new(file.lost(), Way::Writes),
+            Err(_) => Place::unknown(file),
         };
         self.admit(name, place)?;
         self.hold(name);
@@ -165,18 +197,11 @@ impl SystemHost {
         false
     }
 
-    // The place of a name, unless one of this name is refused.
-    fn place_of(&self, name: &str) -> io::Result<&Place> {
-        let mut found = Err(io::Error::from(ErrorKind::Unsupported));
-        for place in &self.places {
-            if place.is_of(name) {
-                if place.is_refused() {
-                    return Err(named_twice());
-                }
-                found = Ok(place);
-            }
-        }
-        found
+    // Whether nothing may be read or written under this name.
+    fn is_refused(&self, name: &str) -> bool {
+        self.places
+            .iter()
+            .any(|place| place.is_of(name) && place.is_refused())
     }
 
     // Reads the file of a name.
@@ -192,19 +217,25 @@ impl SystemHost {
                 return place.read(&self.rt, name);
             }
         }
-        let bytes = read_whole(alloc, &mut fs::open(&self.rt, name)?)?;
-        for place in self.places.iter_mut() {
-            place.was_read(&self.rt, name)?;
-        }
-        Ok(bytes)
+        read_whole(alloc, &mut fs::open(&self.rt, name)?)
     }
 
     // Writes the file of a name.
-    fn write_named(&self, name: &str, bytes: &[u8]) -> io::Result<()> {
+    fn write_named(&mut self, name: &str, bytes: &[u8]) -> io::Result<()>
+        ensures kept { self.new ≡ self.old }
+    {
         if name == "stdout" {
             return self.rt.stdout().write_all(bytes);
         }
-        self.place_of(name)?.write(&self.rt, name, bytes)
+        if self.is_refused(name) {
+            return Err(named_twice());
+        }
+        for place in self.places.iter_mut() {
+            if place.is_of(name) {
+                return place.write(&self.rt, name, bytes);
+            }
+        }
+        Err(io::Error::from(ErrorKind::Unsupported))
     }
 
     // Remembers that the file of a name couldn't be read.

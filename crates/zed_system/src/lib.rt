@@ -4,6 +4,7 @@
 mod causes;
 mod host;
 mod last;
+mod old;
 mod place;
 mod reading;
 

@@ -1,19 +1,16 @@
 //! The files that a command writes.
 
-use crate::causes::{copy_was_read, named_twice, of_standing};
+use crate::causes::{named_twice, of_standing};
+use crate::old::old_file;
 use crate::reading::{Stop, read_whole};
 use std::fs::File;
 use std::io::{self, ErrorKind, Seek};
-use zed_disk::{Beginning, NamedFile, held, is_kept, leads_to, stands, write, write_keeping};
-
-/// The first bytes of an edit file. If a command writes a file that begins so, and doesn't read it,
-/// the old one is kept.
-const EDITS: Beginning = *b"ZED";
+use zed_disk::{FoundFile, KeptName, NamedFile, held, leads_to, stands, write, write_keeping};
 
 /// How a command uses a file.
 #[derive(Clone, Copy, PartialEq, Eq)]
 pub(crate) enum Way {
-    /// It writes the file.
+    /// It writes the file without reading it. So the old one may be kept.
     Writes,
     /// It reads the file, and may write it again; nobody else does so in between.
     Edits,
@@ -30,24 +27,110 @@ enum Hold {
     Refused,
 }
 
-/// A file that a command writes: its place, and its lock, if it is held.
+// Room in a line for the number of a kept file, and for the line's end.
+const ROOM: usize = 8;
+
+// How the old file of a place is kept.
+#[derive(Drop)]
+struct Keeping {
+    kept: KeptName,
+    // the base of a drawing, if drawings are kept too
+    base: Option<String>,
+    // what is told of the file that was kept; before that it is empty, and has room for this
+    line: String,
+}
+
+impl Keeping {
+    // Takes all memory that keeping the old file needs.
+    fn of(
+        rt: &HostRuntime,
+        name: &str,
+        file: &NamedFile,
+        base: Option<String>,
+    ) -> io::Result<Keeping> {
+        let kept = KeptName::of(rt, file.found()?)?;
+        let mut line = format!(in rt.alloc(); "kept the old {name} as {}", kept.as_str())?;
+        line.reserve(ROOM)?;
+        line.clear();
+        Ok(Keeping { kept, base, line })
+    }
+
+    // Writes the file, and keeps the old one if something would be lost with it.
+    fn write(
+        &mut self,
+        rt: &HostRuntime,
+        name: &str,
+        found: &FoundFile,
+        bytes: &[u8],
+    ) -> io::Result<()> {
+        // held until the new file is in its place
+        let Some(mut old) = old_file(rt, name, found, text_in(&self.base), bytes)? else {
+            return write(rt, name, Ok(found), bytes);
+        };
+        stands(rt, &old.file, found).map_err(of_standing)?;
+        if !old.is_kept {
+            return write(rt, name, Ok(found), bytes);
+        }
+        write_keeping(rt, name, found, &mut old.file, &mut self.kept, bytes)?;
+        for part in ["kept the old ", name, " as ", self.kept.as_str(), "\n"] {
+            self.line.push_str(part)?;
+        }
+        Ok(())
+    }
+}
+
+fn text_in(text: &Option<String>) -> Option<&str> {
+    match text {
+        Some(text) => Some(text.as_str()),
+        None => None,
+    }
+}
+
+/// A file that a command writes: its place, its lock, if it is held, and how its old file is kept.
 #[derive(Drop)]
 pub(crate) struct Place {
     file: NamedFile,
     way: Way,
     hold: Hold,
-    // whether that was read which the file would be kept in place of
-    is_kept_read: bool,
+    keeping: Option<Keeping>,
 }
 
 impl Place {
-    /// A place that isn't held yet.
-    pub(crate) fn new(file: NamedFile, way: Way) -> Place {
+    // A place that isn't held yet.
+    fn new(file: NamedFile, way: Way, keeping: Option<Keeping>) -> Place {
         Place {
             file,
             way,
             hold: Hold::Nothing,
-            is_kept_read: false,
+            keeping,
+        }
+    }
+
+    /// A place whose file is read and written.
+    pub(crate) fn edited(file: NamedFile) -> Place {
+        Place::new(file, Way::Edits, None)
+    }
+
+    /// A place that is unknown: only a device is written there.
+    pub(crate) fn unknown(file: NamedFile) -> Place {
+        Place::new(file.lost(), Way::Writes, None)
+    }
+
+    /// A place whose file is written without being read. An edit file is kept, and so is a drawing
+    /// if the name of its base is given. If a device fails, the place is unknown.
+    ///
+    /// # Errors
+    /// Only `OutOfMemory`.
+    pub(crate) fn written(
+        rt: &HostRuntime,
+        name: &str,
+        file: NamedFile,
+        base: Option<String>,
+    ) -> io::Result<Place> {
+        match Keeping::of(rt, name, &file, base) {
+            Ok(keeping) => Ok(Place::new(file, Way::Writes, Some(keeping))),
+            Err(error) if error.kind() == ErrorKind::OutOfMemory => Err(error),
+            Err(_) => Ok(Place::unknown(file)),
         }
     }
 
@@ -76,8 +159,7 @@ impl Place {
         self.hold = Hold::Refused;
     }
 
-    /// Whether two places have the same name or lead to the same file, or one would be kept as the
-    /// other's file.
+    /// Whether two places have the same name or lead to the same file.
     ///
     /// # Errors
     /// A device failed.
@@ -88,12 +170,7 @@ impl Place {
         let (Ok(one), Ok(two)) = (self.file.found(), other.file.found()) else {
             return Ok(false);
         };
-        Ok(
-            one.path() == two.path()
-                || leads_to(rt, one.path(), two.path())?
-                || self.way == Way::Writes && leads_to(rt, two.path(), one.kept())?
-                || other.way == Way::Writes && leads_to(rt, one.path(), two.kept())?,
-        )
+        Ok(one.path() == two.path() || leads_to(rt, one.path(), two.path())?)
     }
 
     /// Holds the file, if it is there, before it is read in another way. Until this command has
@@ -125,35 +202,25 @@ impl Place {
         Ok(bytes)
     }
 
-    /// Remembers that a file was read: its name may lead to the file as which this one would be
-    /// kept.
-    ///
-    /// # Errors
-    /// A device failed.
-    pub(crate) fn was_read(&mut self, rt: &HostRuntime, name: &str) -> io::Result<()> {
-        let (Way::Writes, Ok(found)) = (self.way, self.file.found()) else {
-            return Ok(());
-        };
-        if leads_to(rt, name, found.kept())? {
-            self.is_kept_read = true;
-        }
-        Ok(())
-    }
-
     /// Writes the file. If it was read, the file that was read must still be there.
-    pub(crate) fn write(&self, rt: &HostRuntime, name: &str, bytes: &[u8]) -> io::Result<()> {
+    pub(crate) fn write(&mut self, rt: &HostRuntime, name: &str, bytes: &[u8]) -> io::Result<()> {
         let found = self.file.found();
         match (&self.hold, &found) {
             (Hold::Of(file), Ok(found)) => stands(rt, file, found).map_err(of_standing)?,
             (Hold::Refused, _) => return Err(named_twice()),
             _ => {}
         }
-        match self.way {
-            Way::Edits => write(rt, name, found, bytes),
-            Way::Writes if self.is_kept_read && is_kept(rt, name, &EDITS)? => {
-                Err(copy_was_read())
-            }
-            Way::Writes => write_keeping(rt, name, found, &EDITS, bytes),
+        match (&mut self.keeping, found) {
+            (Some(keeping), Ok(found)) => keeping.write(rt, name, found, bytes),
+            (_, found) => write(rt, name, found, bytes),
+        }
+    }
+
+    /// A line that tells where the old file was kept; nothing if it wasn't.
+    pub(crate) fn told(&self) -> &str {
+        match &self.keeping {
+            Some(keeping) => keeping.line.as_str(),
+            None => "",
         }
     }
 }

@@ -59,7 +59,7 @@ fn admit(host: &mut SystemHost, way: Way, name: &str, links: &[&str]) -> io::Res
     }
     match way {
         Way::Reads => Ok(()),
-        Way::Writes => host.writes(name),
+        Way::Writes => host.saves(name),
         Way::Edits => host.edits(name),
         Way::Joins => host.joins(name, links),
     }
@@ -90,14 +90,16 @@ fn carry_out(rt: HostRuntime, words: &[String]) -> io::Result<u8> {
     }
     let mut screen: Box<dyn Screen> = Box::new(alloc, Printer::new(rt))?;
     let mut keys: Box<dyn Keys> = Box::new(alloc, Typed::new(rt))?;
-    Ok(run(
+    let status = run(
         alloc,
         words,
         &mut host,
         &mut links,
         screen.as_mut(),
         keys.as_mut(),
-    ))
+    );
+    host.tell_kept();
+    Ok(status)
 }
 
 // The status of what the words ask for.

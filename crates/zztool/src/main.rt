@@ -121,6 +121,7 @@ fn carry_out(rt: HostRuntime, words: &[String]) -> io::Result<u8> {
     if status == 1 {
         name_file(&rt, &host);
     }
+    host.tell_kept();
     Ok(status)
 }
 
