@@ -163,3 +163,32 @@ finds_compiler() {
 compiles_library() {
     "$compiler" -shared -fPIC -O2 -ffreestanding -nostdlib "${linker[@]}" -o "$2" "$top/scripts/tests/$1"
 }
+
+# Goes through a test in Python with these words, in the room, and takes its counts; what it says besides is told.
+runs_python() {
+    local file=$1
+    shift
+    if ! command -v python3 > "$room/python"; then
+        not_tried "all of $file: there is no python3"
+        return
+    fi
+    (cd "$room" && PYTHONDONTWRITEBYTECODE=1 python3 "$top/scripts/tests/$file" "$@" > "$room/told" 2>&1) || true
+    untried=$((untried + $(grep -c "^$suite: not tried: " "$room/told" || true)))
+    if [[ $(tail -n 1 "$room/told") =~ ^$suite:\ ([0-9]+)\ passed,\ ([0-9]+)\ failed$ ]]; then
+        passed=$((passed + BASH_REMATCH[1])) failed=$((failed + BASH_REMATCH[2]))
+        head -n -1 "$room/told"
+    else
+        tail -n 20 "$room/told"
+        fails "$file ended early"
+    fi
+}
+
+# Finds test_desk, which makes the calls that no program shows.
+finds_desk() {
+    if TEST_DESK=$(program_of test_desk); then
+        export TEST_DESK
+    else
+        unset TEST_DESK
+        not_tried "what no program shows: there is no test_desk of these sources (scripts/dev/build test_desk proves and builds it)"
+    fi
+}
