@@ -43,6 +43,10 @@ def spelled_refusal(wanted):
     return " ".join(it for it in re.findall(r"[A-Za-z0-9]+:?", wanted) if not it.endswith(":"))
 
 
+def spelled_end(value):
+    return "Ok(())" if value[0] == "Ok" else f"Err({spelled_error(value[1])})"
+
+
 class Dice:
     """Random numbers by linear congruential steps."""
 
@@ -332,7 +336,8 @@ class Book:
             self.names[name] = changed(self.named(source), numbers)
             return None
         if act == "length":
-            return lambda: [str(len(self.named(words[0])))] if len(words) == 1 else None
+            length = str(len(self.named(words[0])))
+            return lambda: [length]
         if act == "random":
             return self.random(row, *(number_of(it) for it in words))
         if act == "program":
@@ -482,9 +487,9 @@ class Book:
         calls, ended = Asked.asked(data, number_of(world), sizes)
 
         def told():
-            lines = [" ".join(Asked.script.answers[it].rstrip(" ").replace("Ok(())", "Ok(()) ").split("  ")) for it in calls]
-            answer, rest = Asked.script.answers[ended].split(" ", 1)
-            return [*lines, f"{answer}, {rest.split(' ')[0]} edits"]
+            answers = [Asked.script[it] for it in calls]
+            end, count, _ = Asked.script[ended]
+            return [*(f"{spelled_end(answer)} {spelled_some(world)}" for answer, world in answers), f"{spelled_end(end)}, {count} edits"]
 
         return told
 
@@ -517,10 +522,10 @@ class Book:
         if act == "label":
             mark, label, text = (*text.split(" ", 2), "")[:3]
             call = Asked.script.call(desk.PROGRAM, 8, number_of(place), spelled_program(text), number_of(mark), label.encode())
-            return lambda: [Asked.script.answers[call].rstrip(" ")]
+            return lambda: label_at(call)
         if act == "bytes":
             calls = [[Asked.script.call(desk.PROGRAM, it, 0, bytes([byte])) for it in (5, 7)] for byte in range(256)]
-            return lambda: [f"{byte} {shown_at(stands)} {kinds_of(lines)}" for byte, (stands, lines) in enumerate(calls)]
+            return lambda: [f"{byte} {standing_at(stands)[0]} {kinds_of(lines)}" for byte, (stands, lines) in enumerate(calls)]
         if act not in ACTS:
             raise NotARow(rest)
         number, shown, *given = ACTS[act]
@@ -538,38 +543,128 @@ def spelled_program(text):
     return bytes(out)
 
 
+# ---- what is found in programs: numbers of test_desk, spelled as `{:?}` prints them
+
+TURNS = ["Clockwise", "CounterClockwise", "Opposite", "Sideways"]
+COURSES = ["North", "South", "East", "West", "Idle", "Seek", "Flow", "Random", "RandomNorthOrSouth", "RandomNorthOrEast"]
+COUNTERS = ["Health", "Ammo", "Gems", "Torches", "Score", "Time"]
+KINDS = ["End", "Skipped", "Blank", "Step", "Attempt", "Command", "Message"]
+TESTS = ["Aligned", "Contact", "Blocked heading", "Any kind", "Energized", "Flag word"]
+COMMANDS = [
+    "Go heading", "Try heading", "Walk heading", "Shoot heading", "Set word", "Clear word", "If query", "Give count", "Take count", "End", "EndGame",
+    "Idle", "Restart", "Send word", "Zap word", "Restore word", "Lock", "Unlock", "Become kind", "Die", "Put heading kind", "Change kind kind",
+    "Cycle number", "Char number", "Bind word", "Nothing", "Other word",
+]  # fmt: skip
+INSTRUCTIONS = ["End", "Skipped", "Blank", "Step heading", "Attempt heading", "Command", "Message word"]
+
+
+class Found:
+    """The values that a call answered, taken one by one."""
+
+    def __init__(self, call):
+        self.left = Asked.script[call]
+
+    def next(self):
+        return self.left.pop(0)
+
+    def some(self, words):
+        """None, or the word of a number."""
+        number = self.next()
+        return "None" if number is False else f"Some({words[number[1] if isinstance(number, tuple) else number]})"
+
+    def heading(self):
+        turns = []
+        while type(self.left[0]) is int:
+            turns.append(TURNS[self.next()])
+        return f"Heading {{ turns: Seq {{ items: [{', '.join(turns)}] }}, course: {self.some(COURSES)} }}"
+
+    def kind(self):
+        found = self.next()
+        if found is False:
+            return "None"
+        colour = found[0] if isinstance(found[0], str) else f"Some({found[0][1]})"
+        return f"Some(TileKind {{ colour: {colour}, element: {found[1]} }})"
+
+    def word(self):
+        return f"Bytes {{ bytes: {self.next()} }}"
+
+    def count(self):
+        return f"{self.some(COUNTERS)}, {self.next()}"
+
+    def number(self):
+        return str(self.next())
+
+    def query(self):
+        negated = str(self.next()).lower()
+        return f"Query {{ negated: {negated}, test: {self.one_of(TESTS)} }}"
+
+    def one_of(self, words):
+        """One of these, with the parts that stand behind its word."""
+        number = self.next()
+        if isinstance(number, tuple):
+            number, part = number
+            self.left.insert(0, part)
+        name, *parts = words[number].split(" ")
+        return f"{name}({', '.join(getattr(self, part)() for part in parts)})" if parts else name
+
+
 def word_at(call):
-    (answer,) = Asked.script[call]
-    word, end = answer[1]
-    return [f"'{bytes(word[1]['bytes']).decode('latin-1')}' {end}"]
+    _, word, end = Asked.script[call]
+    return [f"'{bytes(word).decode('latin-1')}' {end}"]
 
 
-def shown_at(call):
-    """What was found and where it ends, as `{:?}` prints them."""
-    return re.fullmatch(r"(?:Ok\()?\((.*), (\d+)\)\)?", Asked.script.answers[call].rstrip(" ")).expand(r"\1 \2")
+def heading_at(call):
+    found = Found(call)
+    found.next()
+    return [f"{found.heading()} {found.next()}"]
+
+
+def kind_at(call):
+    found = Found(call)
+    return [f"{found.kind()} {found.next()}"]
+
+
+def condition_at(call):
+    found = Found(call)
+    return [f"{found.query()} {found.next()}"]
+
+
+def command_at(call):
+    found = Found(call)
+    command = f"Some({found.one_of(COMMANDS)})" if len(found.left) > 1 or isinstance(found.left[0], tuple) else "None"
+    return [f"{command} {found.next()}"]
+
+
+def standing_at(call):
+    found = Found(call)
+    return [f"{found.one_of(INSTRUCTIONS)} {found.next()}"]
 
 
 def line_at(call):
-    return [Asked.script.answers[call].rstrip(" ")]
+    return [" ".join(str(it) for it in Asked.script[call][0])]
 
 
 def lines_at(call):
     values = Asked.script[call][:-1]
-    lines = [values[at : at + 4] for at in range(0, len(values), 4)]
-    return [f"{kind} {start} {end} '{bytes(text).decode('latin-1')}'" for kind, start, end, text in lines]
+    return [f"{KINDS[line[0]]} {line[1]} {line[2]} '{bytes(text).decode('latin-1')}'" for line, text in zip(values[::2], values[1::2])]
 
 
 def kinds_of(call):
-    return " ".join(Asked.script[call][:-1][::4])
+    return " ".join(KINDS[line[0]] for line in Asked.script[call][:-1][::2])
 
 
-def found_at(call):
-    return [shown_at(call)]
+def label_at(call):
+    place, first, stands = Asked.script[call]
+    return [f"{spelled_some(place)} {spelled_some(first)} {str(stands).lower()}"]
+
+
+def spelled_some(value):
+    return value if isinstance(value, str) else f"Some({value[1]})"
 
 
 ACTS = {
-    "word": (0, word_at), "direction": (1, found_at), "kind": (2, found_at, 0), "kind_or_player": (2, found_at, 1), "condition": (3, found_at),
-    "command": (4, found_at), "stands": (5, found_at), "line": (6, line_at), "lines": (7, lines_at),
+    "word": (0, word_at), "direction": (1, heading_at), "kind": (2, kind_at, 0), "kind_or_player": (2, kind_at, 1), "condition": (3, condition_at),
+    "command": (4, command_at), "stands": (5, standing_at), "line": (6, line_at), "lines": (7, lines_at),
 }  # fmt: skip
 
 

@@ -42,8 +42,12 @@ impl Desk<'_> {
     pub fn deliver(&mut self) {
         if let Some(edit) = copy_of(self.edits.get(self.sheet.size())) {
             self.sheet.start();
-            let answer = self.one.deliver(edit);
-            self.sheet.stop(&answer)
+            match self.one.deliver(edit) {
+                Ok(told) => self
+                    .sheet
+                    .stop(&(told.state as u8, told.woken, told.visits)),
+                Err(error) => self.sheet.stop(&error),
+            }
         }
     }
 

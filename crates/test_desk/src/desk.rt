@@ -56,15 +56,11 @@ impl Desk<'_> {
 
     fn see(&mut self, call: u64) {
         match call {
-            30 => self.board(),
-            31 => self.stat(),
-            32 => self.text_of(),
-            33 => self.text(),
-            34 => self.length(),
-            35 => self.visits(),
-            36 => self.viewed(),
-            37 => self.exported(),
-            38 => self.file(),
+            30 => self.found(),
+            31 => self.text(),
+            32 => self.viewed(),
+            33 => self.exported(),
+            34 => self.file(),
             _ => self.warned(),
         }
     }

@@ -1,8 +1,9 @@
 //! Edits and worlds as they are read, and written again.
 use crate::desk::Desk;
+use crate::sheet::Sheet;
 use std::alloc::Global;
 use zed_editfile::{EditReader, write_edit};
-use zed_op::{Edit, EditError, Op, check, names};
+use zed_op::{Edit, EditError, Op, Thing, check, names};
 use zed_types::{BoardId, READ_BODY_LIMIT};
 use zed_world::{WorldError, is_canonical, read_world, write_world};
 
@@ -10,6 +11,21 @@ fn put_record(alloc: Global, edit: &Edit, out: &mut Vec<u8>) {
     if let Ok(()) = check(alloc, edit) {
         let _ = write_edit(edit, out);
     }
+}
+
+/// The kind of a thing and its name, and of a byte that of its text too.
+fn put_thing(sheet: &mut Sheet, thing: Thing) {
+    let (kind, name) = match thing {
+        Thing::Board(id) => (0_u8, id.name),
+        Thing::Stat(id) => (1, id.name),
+        Thing::Text(id) => (2, id.name),
+        Thing::Element(id, byte) => {
+            sheet.show_name(Some(id.name));
+            (3, byte.name)
+        }
+    };
+    sheet.show(&kind);
+    sheet.show_name(Some(name))
 }
 
 /// Whether an edit has an equal copy.
@@ -100,7 +116,10 @@ impl Desk<'_> {
         if let Some(edit) = self.edits.get(self.sheet.size()) {
             self.sheet.start();
             let things = names(self.sheet.alloc(), edit);
-            self.sheet.stop(&things.as_slice())
+            self.sheet.stop(&things.len());
+            for thing in things.as_slice() {
+                put_thing(&mut self.sheet, *thing)
+            }
         }
     }
 }

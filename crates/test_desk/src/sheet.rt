@@ -110,6 +110,13 @@ impl<'a> Sheet<'a> {
         let _ = put(&mut self.answers, it);
     }
 
+    pub fn show_name(&mut self, name: Option<Name>) {
+        match name {
+            Some(name) => self.show(&(name.stamp.time, name.stamp.replica, name.index)),
+            None => self.show(&false),
+        }
+    }
+
     /// Begins a line, if there is one more.
     pub fn begin_line(&mut self) -> bool {
         self.nth = self.size();

@@ -5,7 +5,31 @@ use std::alloc::Global;
 use zed_document::{Document, View, append_text};
 use zed_edit::{Plain, replay};
 use zed_export::{ExportError, export, save, warnings};
-use zed_types::{BODY_LIMIT, BoardId, READ_BODY_LIMIT, Side, StatByte, StatId, StatNumber, TextId};
+use zed_types::{
+    BODY_LIMIT, BoardId, Name, READ_BODY_LIMIT, Side, StatByte, StatId, StatNumber, TextId,
+    ThirdParameter,
+};
+
+fn board_name(id: Option<BoardId>) -> Option<Name> {
+    match id {
+        Some(id) => Some(id.name),
+        None => None,
+    }
+}
+
+fn stat_name(id: Option<StatId>) -> Option<Name> {
+    match id {
+        Some(id) => Some(id.name),
+        None => None,
+    }
+}
+
+fn put_target(sheet: &mut Sheet, p3: ThirdParameter) {
+    match p3 {
+        ThirdParameter::Byte(byte) => sheet.show(&byte),
+        ThirdParameter::Board(id) => sheet.show_name(Some(id.name)),
+    }
+}
 
 /// How many boards the exported world has.
 fn boards_of(alloc: Global, document: &Document) -> Result<usize, ExportError> {
@@ -21,14 +45,14 @@ fn put_replayed(sheet: &mut Sheet, plain: &Plain) {
     let name = sheet.name();
     let n = sheet.size();
     match asked {
-        0 => sheet.stop(&plain.held()),
+        0 => sheet.show(&plain.held()),
         1 => {
-            sheet.stop(&plain.length(TextId { name }));
+            sheet.show(&plain.length(TextId { name }));
             let text = plain.text(sheet.alloc(), TextId { name });
             sheet.show(&text)
         }
-        2 => sheet.stop(&plain.board_numbered(n)),
-        _ => sheet.stop(&plain.stat_numbered(BoardId { name }, n)),
+        2 => sheet.show_name(board_name(plain.board_numbered(n))),
+        _ => sheet.show_name(stat_name(plain.stat_numbered(BoardId { name }, n))),
     }
 }
 
@@ -38,7 +62,10 @@ fn put_text(sheet: &mut Sheet, view: &View) {
     let is_there = view.has_text(id);
     let name = view.name_at(id, sheet.size());
     sheet.stop(&is_there);
-    sheet.show(&name);
+    match name {
+        Some(byte) => sheet.show_name(Some(byte.name)),
+        None => sheet.show_name(None),
+    }
     let mut out = Vec::new(sheet.alloc());
     let _ = append_text(view, id, &mut out);
     sheet.show(&out)
@@ -48,16 +75,18 @@ fn put_text(sheet: &mut Sheet, view: &View) {
 fn put_board(sheet: &mut Sheet, view: &View, i: usize) {
     let properties = view.properties(i);
     let rank = properties.rank();
-    let exits = (
+    let exits = [
         properties.exit(Side::North),
         properties.exit(Side::South),
         properties.exit(Side::West),
         properties.exit(Side::East),
-    );
+    ];
     let tile = view.table(i).get(sheet.size());
     sheet.stop(&rank);
-    sheet.show(&exits);
-    sheet.show(&tile)
+    sheet.show(&tile);
+    for exit in exits {
+        sheet.show_name(board_name(exit))
+    }
 }
 
 /// The registers of a stat, by its place among those of its board that were made.
@@ -66,15 +95,15 @@ fn put_stat(sheet: &mut Sheet, view: &View, i: usize) {
     if i < view.boards() && j < view.stats(i) {
         let (id, stat) = view.stat(i, j);
         let values = &stat.values;
-        sheet.stop(&id);
+        sheet.stop(&stat.removed);
+        sheet.show_name(Some(id.name));
         sheet.show(&values.byte(StatByte::X));
         sheet.show(&values.byte(StatByte::Y));
         sheet.show(&values.number(StatNumber::Cycle));
         sheet.show(&values.number(StatNumber::Position));
-        sheet.show(&values.fields.p3);
-        sheet.show(&values.follower);
-        sheet.show(&values.leader);
-        sheet.show(&stat.removed)
+        put_target(sheet, values.fields.p3);
+        sheet.show_name(stat_name(values.follower));
+        sheet.show_name(stat_name(values.leader))
     }
 }
 
@@ -97,51 +126,46 @@ impl Desk<'_> {
     pub fn replayed(&mut self) {
         self.sheet.start();
         match replay(self.sheet.alloc(), self.one.edits()) {
-            Ok(plain) => put_replayed(&mut self.sheet, &plain),
+            Ok(plain) => {
+                self.sheet.stop(&true);
+                put_replayed(&mut self.sheet, &plain)
+            }
             Err(error) => self.sheet.stop(&error),
         }
     }
 
-    pub fn board(&mut self) {
-        let n = self.sheet.size();
-        self.sheet.start();
-        let answer = self.one.board(n);
-        self.sheet.stop(&answer)
-    }
-
-    pub fn stat(&mut self) {
+    /// The board of a number; of a name the stat of a number, if it is a board, the text, if it is a stat, and if it is a text its length and
+    /// how often its runs were looked at.
+    pub fn found(&mut self) {
         let name = self.sheet.name();
         let n = self.sheet.size();
         self.sheet.start();
-        let answer = self.one.stat(BoardId { name }, n);
-        self.sheet.stop(&answer)
-    }
-
-    pub fn text_of(&mut self) {
-        let name = self.sheet.name();
-        self.sheet.start();
-        let answer = self.one.text_of(StatId { name });
-        self.sheet.stop(&answer)
+        let board = self.one.board(n);
+        let stat = self.one.stat(BoardId { name }, n);
+        let text = self.one.text_of(StatId { name });
+        let length = self.one.length(TextId { name });
+        let visits = self.one.visits(TextId { name });
+        self.sheet.stop(&length);
+        self.sheet.show(&visits);
+        match board {
+            Ok(id) => self.sheet.show_name(board_name(id)),
+            Err(error) => self.sheet.show(&error),
+        }
+        match stat {
+            Ok(id) => self.sheet.show_name(stat_name(id)),
+            Err(error) => self.sheet.show(&error),
+        }
+        match text {
+            Ok(Some(id)) => self.sheet.show_name(Some(id.name)),
+            Ok(None) => self.sheet.show_name(None),
+            Err(error) => self.sheet.show(&error),
+        }
     }
 
     pub fn text(&mut self) {
         let name = self.sheet.name();
         self.sheet.start();
         let answer = self.one.text(TextId { name });
-        self.sheet.stop(&answer)
-    }
-
-    pub fn length(&mut self) {
-        let name = self.sheet.name();
-        self.sheet.start();
-        let answer = self.one.length(TextId { name });
-        self.sheet.stop(&answer)
-    }
-
-    pub fn visits(&mut self) {
-        let name = self.sheet.name();
-        self.sheet.start();
-        let answer = self.one.visits(TextId { name });
         self.sheet.stop(&answer)
     }
 
