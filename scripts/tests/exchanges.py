@@ -506,7 +506,8 @@ class Table:
             answer = view()
             if not answer:
                 raise NotARow("there is no such board or stat")
-            return answer[1:], error_of(answer[1])
+            error = error_of(answer[1]) if len(answer) == 2 else None
+            return answer[1:], error
 
         return values
 
@@ -518,7 +519,7 @@ class Table:
 
     def take_rank(self, who, rest, row):
         view = self.view(who, 1, number_of(rest), 0)
-        return lambda: [view()[1] or str(view()[0][0])]
+        return lambda: [view()[1] or str(view()[0][1])]
 
     def take_cell(self, who, rest, row):
         i, place = words_and(rest, 2)
@@ -526,7 +527,7 @@ class Table:
 
         def seen():
             values, error = view()
-            tile = error or values[1][1][1]
+            tile = error or values[0][1][1]
             return [error or f"{tile['element']} 0x{tile['colour']:02x}"]
 
         return seen
@@ -754,7 +755,7 @@ class Table:
 
         def is_so(answers):
             board, player, text = answers
-            return board[1] == ("Some", ("Tile", {"element": 0, "colour": 0})) and player[7] is False and text[0] and text[1] is not False
+            return board[0] == ("Some", ("Tile", {"element": 0, "colour": 0})) and player[7] is False and text[0] and text[1] is not False
 
         return self.lean(calls, is_so)
 
@@ -917,7 +918,7 @@ class Turn:
     def goes_on(self, is_stale, is_refused):
         """What follows the call: of a refused one, all that has to be as before, a repair, and the same call again."""
         if is_refused:
-            self.played.add(self.case.rows[self.case.kept : self.case.call])
+            self.played.add(self.case.rows[self.case.kept : self.case.call] if self.case.kept is not None else [])
             self.played.add(self.played.book.stale if is_stale else [])
             self.repaired = self.table.ended("one", "repairs", "")
             once = self.case.rows[self.case.call].text.startswith("call_once ")

@@ -562,7 +562,7 @@ class Found:
     """The values that a call answered, taken one by one."""
 
     def __init__(self, call):
-        self.left = Asked.script[call]
+        *self.left, (_, self.end) = Asked.script[call]
 
     def next(self):
         return self.left.pop(0)
@@ -609,39 +609,39 @@ class Found:
 
 
 def word_at(call):
-    _, word, end = Asked.script[call]
-    return [f"'{bytes(word).decode('latin-1')}' {end}"]
+    found = Found(call)
+    return [f"'{bytes(found.left[1]).decode('latin-1')}' {found.end}"]
 
 
 def heading_at(call):
     found = Found(call)
     found.next()
-    return [f"{found.heading()} {found.next()}"]
+    return [f"{found.heading()} {found.end}"]
 
 
 def kind_at(call):
     found = Found(call)
-    return [f"{found.kind()} {found.next()}"]
+    return [f"{found.kind()} {found.end}"]
 
 
 def condition_at(call):
     found = Found(call)
-    return [f"{found.query()} {found.next()}"]
+    return [f"{found.query()} {found.end}"]
 
 
 def command_at(call):
     found = Found(call)
-    command = f"Some({found.one_of(COMMANDS)})" if len(found.left) > 1 or isinstance(found.left[0], tuple) else "None"
-    return [f"{command} {found.next()}"]
+    return [f"{f'Some({found.one_of(COMMANDS)})' if found.left else 'None'} {found.end}"]
 
 
 def standing_at(call):
     found = Found(call)
-    return [f"{found.one_of(INSTRUCTIONS)} {found.next()}"]
+    return [f"{found.one_of(INSTRUCTIONS)} {found.end}"]
 
 
 def line_at(call):
-    return [" ".join(str(it) for it in Asked.script[call][0])]
+    found = Found(call)
+    return [f"{found.next()} {found.end}"]
 
 
 def lines_at(call):
@@ -654,7 +654,7 @@ def kinds_of(call):
 
 
 def label_at(call):
-    place, first, stands = Asked.script[call]
+    place, first, stands = Found(call).left
     return [f"{spelled_some(place)} {spelled_some(first)} {str(stands).lower()}"]
 
 

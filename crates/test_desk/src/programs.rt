@@ -122,87 +122,83 @@ fn put_instruction(sheet: &mut Sheet, found: &Instruction) {
 }
 
 /// Each line of a program: its kind, where it begins and ends, and its text.
-fn put_lines(sheet: &mut Sheet, program: &[u8]) -> Result<(), AllocError> {
+fn put_lines(sheet: &mut Sheet, program: &[u8]) -> Result<usize, AllocError> {
     let parsed = Program::parse(sheet.alloc(), program)?;
     for line in parsed.lines.as_slice() {
         sheet.show(&(line.kind as u8, line.start, line_end(program, line.start)));
         sheet.show(&line.text)
     }
-    Ok(())
+    Ok(program.len())
 }
 
 /// Where messages to a label lead, the place of the first such label, and whether one stands at a place with a mark.
-fn put_label(sheet: &mut Sheet, program: &[u8], at: usize) {
+fn put_label(sheet: &mut Sheet, program: &[u8], at: usize) -> usize {
     let mark = sheet.short().to_le_bytes()[0];
     let label = sheet.bytes();
     sheet.show(&label_place(program, label.as_slice()));
     sheet.show(&first_label(program, label.as_slice()));
-    sheet.show(&label_at(mark, program, at, label.as_slice()))
+    sheet.show(&label_at(mark, program, at, label.as_slice()));
+    program.len()
 }
 
-/// What is found in a program, and where it ends; or nothing where memory lacks.
-fn put_found(sheet: &mut Sheet, act: u64, program: &[u8], at: usize) {
-    let alloc = sheet.alloc();
-    let end = match act {
-        0 => match word_at(alloc, program, at) {
-            Ok((word, end)) => {
-                put_bytes(sheet, 0, &word);
-                end
-            }
-            Err(_) => return,
-        },
-        1 => match direction(alloc, program, at) {
-            Ok((heading, end)) => {
-                put_heading(sheet, 0, &heading);
-                end
-            }
-            Err(_) => return,
-        },
-        2 => {
-            let is_player = sheet.number() == 1;
-            let (found, end) = kind(program, at, is_player);
-            put_kind(sheet, found);
-            end
-        }
-        3 => match condition(alloc, program, at) {
-            Ok((query, end)) => {
-                put_query(sheet, &query);
-                end
-            }
-            Err(_) => return,
-        },
-        4 => match next_command(alloc, program, at) {
-            Ok((Some(command), end)) => {
-                put_command(sheet, &command);
-                end
-            }
-            Ok((None, end)) => end,
-            Err(_) => return,
-        },
-        _ => match standing_at(alloc, program, at) {
-            Ok((found, end)) => {
-                put_instruction(sheet, &found);
-                end
-            }
-            Err(_) => return,
-        },
-    };
-    sheet.show(&end)
+fn put_word(sheet: &mut Sheet, program: &[u8], at: usize) -> Result<usize, AllocError> {
+    let (word, end) = word_at(sheet.alloc(), program, at)?;
+    put_bytes(sheet, 0, &word);
+    Ok(end)
 }
 
-/// What stands at a place of a program.
+fn put_direction(sheet: &mut Sheet, program: &[u8], at: usize) -> Result<usize, AllocError> {
+    let (heading, end) = direction(sheet.alloc(), program, at)?;
+    put_heading(sheet, 0, &heading);
+    Ok(end)
+}
+
+fn put_kind_there(sheet: &mut Sheet, program: &[u8], at: usize) -> usize {
+    let is_player = sheet.number() == 1;
+    let (found, end) = kind(program, at, is_player);
+    put_kind(sheet, found);
+    end
+}
+
+fn put_condition(sheet: &mut Sheet, program: &[u8], at: usize) -> Result<usize, AllocError> {
+    let (query, end) = condition(sheet.alloc(), program, at)?;
+    put_query(sheet, &query);
+    Ok(end)
+}
+
+fn put_next_command(sheet: &mut Sheet, program: &[u8], at: usize) -> Result<usize, AllocError> {
+    let (found, end) = next_command(sheet.alloc(), program, at)?;
+    if let Some(command) = found {
+        put_command(sheet, &command)
+    }
+    Ok(end)
+}
+
+fn put_standing(sheet: &mut Sheet, program: &[u8], at: usize) -> Result<usize, AllocError> {
+    let (found, end) = standing_at(sheet.alloc(), program, at)?;
+    put_instruction(sheet, &found);
+    Ok(end)
+}
+
+/// What stands at a place of a program. Where it ends comes last.
 pub fn put_program(sheet: &mut Sheet) {
     let act = sheet.number();
     let at = sheet.size();
     let bytes = sheet.bytes();
     let program = bytes.as_slice();
-    match act {
-        6 => sheet.show(&(line_end(program, at), line_after(program, at))),
-        7 => {
-            let done = put_lines(sheet, program);
-            sheet.show(&done)
+    let end = match act {
+        0 => put_word(sheet, program, at),
+        1 => put_direction(sheet, program, at),
+        2 => Ok(put_kind_there(sheet, program, at)),
+        3 => put_condition(sheet, program, at),
+        4 => put_next_command(sheet, program, at),
+        5 => put_standing(sheet, program, at),
+        6 => {
+            sheet.show(&line_end(program, at));
+            Ok(line_after(program, at))
         }
-        8 => put_label(sheet, program, at),
-        _ => put_found(sheet, act, program, at),
-    }
+        7 => put_lines(sheet, program),
+        _ => Ok(put_label(sheet, program, at)),
+    };
+    sheet.show(&end)
 }

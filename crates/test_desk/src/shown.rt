@@ -71,21 +71,17 @@ fn put_text(sheet: &mut Sheet, view: &View) {
     sheet.show(&out)
 }
 
-/// The rank, the exits and the tile at a place of a board.
+/// The tile at a place, the rank and the exits of a board, by its place among those that were made.
 fn put_board(sheet: &mut Sheet, view: &View, i: usize) {
-    let properties = view.properties(i);
-    let rank = properties.rank();
-    let exits = [
-        properties.exit(Side::North),
-        properties.exit(Side::South),
-        properties.exit(Side::West),
-        properties.exit(Side::East),
-    ];
-    let tile = view.table(i).get(sheet.size());
-    sheet.stop(&rank);
-    sheet.show(&tile);
-    for exit in exits {
-        sheet.show_name(board_name(exit))
+    let place = sheet.size();
+    if i < view.boards() {
+        let properties = view.properties(i);
+        sheet.stop(&view.table(i).get(place));
+        sheet.show(&properties.rank());
+        sheet.show_name(board_name(properties.exit(Side::North)));
+        sheet.show_name(board_name(properties.exit(Side::South)));
+        sheet.show_name(board_name(properties.exit(Side::West)));
+        sheet.show_name(board_name(properties.exit(Side::East)))
     }
 }
 
@@ -107,17 +103,17 @@ fn put_stat(sheet: &mut Sheet, view: &View, i: usize) {
     }
 }
 
-/// What a view shows: a text, a board by its place among those that were made, or a stat of it.
+/// What a view shows: a text, a board or a stat.
 fn put_viewed(sheet: &mut Sheet, view: &View) {
-    let asked = sheet.number();
-    if asked == 0 {
-        return put_text(sheet, view);
-    }
-    let i = sheet.size();
-    if i < view.boards() {
-        match asked {
-            1 => put_board(sheet, view, i),
-            _ => put_stat(sheet, view, i),
+    match sheet.number() {
+        0 => put_text(sheet, view),
+        1 => {
+            let i = sheet.size();
+            put_board(sheet, view, i)
+        }
+        _ => {
+            let i = sheet.size();
+            put_stat(sheet, view, i)
         }
     }
 }
