@@ -8,6 +8,8 @@ from rows import Programs
 
 PROGRAMS = Programs(os.getcwd())
 LAST = (2**48 - 1, 65535)
+EMPTY = zzt.World(boards=[zzt.Board(stats=[zzt.Stat(30, 12, cycle=1)])])
+EMPTY.boards[0].put(30, 12, (4, 0x1F))
 
 
 def stamp_told(stamp):
@@ -68,8 +70,7 @@ class Replica:
     def board(self, n):
         """The stamp of the edit that made the board of a number."""
         lines = self.lines("--board", str(n))
-        return "none" if lines == "NoBoard" else ".".join(lines[0].split(" ")[:2])
-
-
-EMPTY = zzt.World(boards=[zzt.Board(stats=[zzt.Stat(30, 12, cycle=1)])])
-EMPTY.boards[0].put(30, 12, (4, 0x1F))
+        if lines == "NoBoard":
+            return "none"
+        made = [it for it in lines if it.split("  ")[1].startswith(("add board", "genesis"))]
+        return ".".join(made[0].split(" ")[:2])
