@@ -1,14 +1,9 @@
 //! Cells whose growths are refused.
 use crate::growths::{refuse_each, turn_of};
 use std::alloc::{AllocError, Global};
-use std::test::Fail;
 use test_rows::{Turn, refuse, was_refused};
 use zed_cells::Cells;
 use zed_types::{Place, Rectangle, Stamp, TILES, Tile};
-
-fn at(time: u64, replica: u16) -> Stamp {
-    Stamp { time, replica }
-}
 
 const LION: Tile = Tile {
     element: 41,
@@ -27,26 +22,45 @@ const ALL: Rectangle = Rectangle {
     bottom: 25,
 };
 
+const LATE: Stamp = Stamp {
+    time: 2,
+    replica: 1,
+};
+
+/// Whether the last cell has this tile.
+fn ends_in(cells: &Cells, tile: Tile) -> bool {
+    cells.get(Place { x: 60, y: 25 }) == tile
+}
+
 /// Makes the cells of a board with a growth refused.
 fn cells_once(alloc: Global, nth: usize) -> Turn {
     refuse(alloc, nth);
     match Cells::new(alloc, [LION; TILES], Stamp::GENESIS) {
-        Ok(cells) => turn_of(alloc, cells.get(Place { x: 60, y: 25 }) == LION, false),
-        Err(error) => turn_of(alloc, false, error == AllocError),
+        Ok(cells) => turn_of(alloc, ends_in(&cells, LION), false),
+        Err(AllocError) => turn_of(alloc, false, true),
     }
 }
 
 #[test]
-fn each_growth_of_cells_refused(rt: HostRuntime) -> Result<(), Fail> {
-    refuse_each!(nth => cells_once(rt.alloc(), nth))
+fn each_growth_of_cells_refused(rt: HostRuntime) {
+    assert!(rt; refuse_each!(nth => cells_once(rt.alloc(), nth)));
+}
+
+/// Whether all cells are written without memory.
+fn are_written(alloc: Global, cells: &mut Cells) -> bool {
+    refuse(alloc, 1);
+    cells.set(ALL, LATE, GEM);
+    !was_refused(alloc) && ends_in(cells, GEM)
+}
+
+fn write_without_memory(alloc: Global) -> bool {
+    match Cells::new(alloc, [Tile::EMPTY; TILES], Stamp::GENESIS) {
+        Ok(mut cells) => are_written(alloc, &mut cells),
+        Err(AllocError) => false,
+    }
 }
 
 #[test]
-fn writing_takes_no_memory_refused(rt: HostRuntime) -> Result<(), Fail> {
-    let mut cells = Cells::new(rt.alloc(), [Tile::EMPTY; TILES], Stamp::GENESIS)?;
-    refuse(rt.alloc(), 1);
-    cells.set(ALL, at(2, 1), GEM);
-    assert!(rt; !was_refused(rt.alloc()));
-    assert_eq!(rt; cells.get(Place { x: 60, y: 25 }), GEM);
-    Ok(())
+fn writing_takes_no_memory_refused(rt: HostRuntime) {
+    assert!(rt; write_without_memory(rt.alloc()));
 }

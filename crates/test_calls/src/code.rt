@@ -7,8 +7,7 @@ ghost use Rattle.zed_code.specs.Text.{elements};
 use crate::growths::{refuse_each, turn_of};
 use crate::stamps::{first_of, stamp};
 use std::alloc::{AllocError, Global};
-use std::test::Fail;
-use test_rows::{MOST, Turn, refuse, was_refused};
+use test_rows::{Turn, refuse, was_refused};
 use zed_code::Text;
 use zed_types::{ElemId, Stamp};
 
@@ -24,6 +23,14 @@ fn letters(alloc: Global) -> Result<Text, AllocError>
     Text::genesis(alloc, b"AB")
 }
 
+/// Whether a text has these bytes.
+fn reads(text: &Text, wanted: &[u8]) -> bool {
+    match text.text() {
+        Ok(bytes) => bytes.as_slice() == wanted,
+        Err(AllocError) => false,
+    }
+}
+
 fn genesis_once(alloc: Global, nth: usize) -> Turn {
     refuse(alloc, nth);
     match letters(alloc) {
@@ -33,8 +40,8 @@ fn genesis_once(alloc: Global, nth: usize) -> Turn {
 }
 
 #[test]
-fn each_growth_of_a_first_text_refused(rt: HostRuntime) -> Result<(), Fail> {
-    refuse_each!(nth => genesis_once(rt.alloc(), nth))
+fn each_growth_of_a_first_text_refused(rt: HostRuntime) {
+    assert!(rt; refuse_each!(nth => genesis_once(rt.alloc(), nth)));
 }
 
 fn text_once(alloc: Global, text: &Text, nth: usize) -> Turn {
@@ -45,27 +52,49 @@ fn text_once(alloc: Global, text: &Text, nth: usize) -> Turn {
     }
 }
 
-#[test]
-fn each_growth_of_the_bytes_refused(rt: HostRuntime) -> Result<(), Fail> {
-    let text = letters(rt.alloc())?;
-    refuse_each!(nth => text_once(rt.alloc(), &text, nth))
+fn reads_each(alloc: Global, text: &Text) -> bool {
+    refuse_each!(nth => text_once(alloc, text, nth))
 }
 
-/// Whether what a text tells is told without memory.
-fn tells_without_memory(alloc: Global, text: &mut Text) -> bool {
+fn letters_read_each(alloc: Global) -> bool {
+    match letters(alloc) {
+        Ok(text) => reads_each(alloc, &text),
+        Err(AllocError) => false,
+    }
+}
+
+#[test]
+fn each_growth_of_the_bytes_refused(rt: HostRuntime) {
+    assert!(rt; letters_read_each(rt.alloc()));
+}
+
+/// Whether what a text of two letters tells is so.
+fn tells(text: &Text) -> bool {
     let (first, second) = (
         ElemId::new(Stamp::GENESIS, 0),
         ElemId::new(Stamp::GENESIS, 1),
     );
-    refuse(alloc, 1);
-    text.hint(second);
-    let is_told = text.length() == 2
+    text.length() == 2
         && text.byte_at(1) == Some(b'B')
         && text.elem_at(0) == Some(first)
         && text.has(second)
         && text.visits() == 0
-        && text.same(text);
+        && text.same(text)
+}
+
+/// Whether that is told without memory.
+fn tells_without_memory(alloc: Global, text: &mut Text) -> bool {
+    refuse(alloc, 1);
+    text.hint(ElemId::new(Stamp::GENESIS, 1));
+    let is_told = tells(text);
     !was_refused(alloc) && is_told
+}
+
+fn letters_tell(alloc: Global) -> bool {
+    match letters(alloc) {
+        Ok(mut text) => tells_without_memory(alloc, &mut text),
+        Err(AllocError) => false,
+    }
 }
 
 /// Whether a text without a byte is made without memory.
@@ -76,72 +105,63 @@ fn begins_without_memory(alloc: Global) -> bool {
 }
 
 #[test]
-fn a_text_without_a_byte_takes_no_memory_refused(rt: HostRuntime) -> Result<(), Fail> {
+fn a_text_without_a_byte_takes_no_memory_refused(rt: HostRuntime) {
     assert!(rt; begins_without_memory(rt.alloc()));
-    Ok(())
 }
 
 #[test]
-fn readers_take_no_memory_refused(rt: HostRuntime) -> Result<(), Fail> {
-    let mut text = letters(rt.alloc())?;
-    assert!(rt; tells_without_memory(rt.alloc(), &mut text));
-    Ok(())
+fn readers_take_no_memory_refused(rt: HostRuntime) {
+    assert!(rt; letters_tell(rt.alloc()));
 }
 
-#[test]
-fn an_insertion_of_nothing_changes_nothing(rt: HostRuntime) -> Result<(), Fail> {
-    let mut text = Text::new(rt.alloc());
+/// Whether insertions of nothing look at no run of an empty text, and at the one run of another, and leave the bytes.
+fn nothing_is_put(alloc: Global) -> Result<bool, AllocError> {
+    let mut text = Text::new(alloc);
     text.insert(None, X, b"")?;
-    assert_eq!(rt; text.visits(), 0);
+    let first = text.visits();
     text.insert(None, X, b"x")?;
     let before = text.visits();
     text.insert(None, Y, b"")?;
-    assert_eq!(rt; text.visits(), before + 1);
-    assert_eq!(rt; text.text()?.as_slice(), b"x".as_slice());
-    Ok(())
-}
-
-/// Whether each growth of `insert`, refused in turn, leaves the text as it was, up to the call that met none.
-fn sweep_insert(alloc: Global) -> Result<bool, Fail> {
-    for nth in 1..=MOST {
-        let mut text = Text::genesis(alloc, b"ABC")?;
-        text.delete(Stamp::GENESIS, 1, 1)?;
-        refuse(alloc, nth);
-        let answer = text.insert(first_of(Stamp::GENESIS), X, b"x");
-        if !was_refused(alloc) {
-            return Ok(answer.is_ok() && text.text()?.as_slice() == b"AxC".as_slice());
-        }
-        if answer.is_ok() || text.text()?.as_slice() != b"AC".as_slice() {
-            return Ok(false);
-        }
-        text.insert(first_of(Stamp::GENESIS), X, b"x")?;
-        if text.text()?.as_slice() != b"AxC".as_slice() {
-            return Ok(false);
-        }
-    }
-    Ok(false)
-}
-
-/// Whether each growth of `delete`, refused in turn, leaves the text as it was, up to the call that met none.
-fn sweep_delete(alloc: Global) -> Result<bool, Fail> {
-    for nth in 1..=MOST {
-        let mut text = letters(alloc)?;
-        text.insert(first_of(Stamp::GENESIS), X, b"x")?;
-        refuse(alloc, nth);
-        let answer = text.delete(Stamp::GENESIS, 0, 0);
-        if !was_refused(alloc) {
-            return Ok(answer.is_ok() && text.text()?.as_slice() == b"xB".as_slice());
-        }
-        if answer.is_ok() || text.text()?.as_slice() != b"AxB".as_slice() {
-            return Ok(false);
-        }
-    }
-    Ok(false)
+    Ok(first == 0 && text.visits().checked_sub(before) == Some(1) && reads(&text, b"x"))
 }
 
 #[test]
-fn a_refused_growth_leaves_the_text(rt: HostRuntime) -> Result<(), Fail> {
-    assert!(rt; sweep_insert(rt.alloc())?);
-    assert!(rt; sweep_delete(rt.alloc())?);
-    Ok(())
+fn an_insertion_of_nothing_changes_nothing(rt: HostRuntime) {
+    assert!(rt; matches!(nothing_is_put(rt.alloc()), Ok(true)));
+}
+
+/// Inserts with a growth refused. Then the text is as it was, and takes the insertion when that is tried again.
+fn insert_once(alloc: Global, nth: usize) -> Result<Turn, AllocError> {
+    let mut text = Text::genesis(alloc, b"ABC")?;
+    text.delete(Stamp::GENESIS, 1, 1)?;
+    refuse(alloc, nth);
+    let answer = text.insert(first_of(Stamp::GENESIS), X, b"x");
+    if !was_refused(alloc) {
+        let is_whole = answer.is_ok() && reads(&text, b"AxC");
+        return Ok(test_rows::turn_of(false, is_whole, false));
+    }
+    if answer.is_ok() || !reads(&text, b"AC") {
+        return Ok(Turn::Wrong);
+    }
+    text.insert(first_of(Stamp::GENESIS), X, b"x")?;
+    Ok(test_rows::turn_of(true, false, reads(&text, b"AxC")))
+}
+
+/// Deletes with a growth refused, and then the text is as it was.
+fn delete_once(alloc: Global, nth: usize) -> Result<Turn, AllocError> {
+    let mut text = letters(alloc)?;
+    text.insert(first_of(Stamp::GENESIS), X, b"x")?;
+    refuse(alloc, nth);
+    let is_done = text.delete(Stamp::GENESIS, 0, 0).is_ok();
+    let was_refused = was_refused(alloc);
+    let is_whole = is_done && reads(&text, b"xB");
+    let is_kept = !is_done && reads(&text, b"AxB");
+    Ok(test_rows::turn_of(was_refused, is_whole, is_kept))
+}
+
+#[test]
+fn a_refused_growth_leaves_the_text(rt: HostRuntime) {
+    let alloc = rt.alloc();
+    assert!(rt; refuse_each!(nth => insert_once(alloc, nth).unwrap_or(Turn::Wrong)));
+    assert!(rt; refuse_each!(nth => delete_once(alloc, nth).unwrap_or(Turn::Wrong)));
 }

@@ -1,7 +1,6 @@
-//! Edit files are fed and written with each growth refused. What is read of other edit files is in the tables of `test_readings`.
+//! Edit files are fed and written with each growth refused. What is read of other edit files is in the rows of readings.
 use crate::growths::{refuse_each, turn_of};
 use std::alloc::Global;
-use std::test::Fail;
 use test_rows::{Turn, refuse, was_refused};
 use zed_editfile::{EditFileError, EditReader, write_edit, write_head};
 use zed_op::{Cause, Edit, EditError, Op, check};
@@ -32,75 +31,80 @@ fn one_cell() -> Edit {
     }
 }
 
-/// Writes an edit that fits.
-fn write(alloc: Global, edit: &Edit, out: &mut Vec<u8>) -> Result<(), EditFileError> {
-    match check(alloc, edit) {
-        Ok(()) => write_edit(edit, out),
-        Err(_) => Err(EditFileError::CutShort),
+/// Whether the edit of the file was read, and no other.
+fn is_one_cell(edits: &[Edit]) -> bool {
+    match edits {
+        [edit] => edit.is_same(&one_cell()),
+        _ => false,
     }
 }
 
-/// Feeds the file in three pieces, of which the first two end inside the record, and asks for the refusal behind the first.
-fn feed_once(alloc: Global, nth: usize) -> Turn {
-    let (begin, rest) = ONE_CELL.split_at(5);
-    let (middle, end) = rest.split_at(25);
+fn is_memory(answer: Result<(), EditFileError>) -> bool {
+    matches!(answer, Err(EditFileError::Memory))
+}
+
+/// Feeds two pieces that end the file, and asks for the refusal before the first.
+fn feed_on(
+    alloc: Global,
+    reader: &mut EditReader,
+    out: &mut Vec<Edit>,
+    pieces: (&[u8], &[u8]),
+    nth: usize,
+) -> Turn {
+    refuse(alloc, nth);
+    let first = reader.feed(pieces.0, out);
+    let second = reader.feed(pieces.1, out);
+    let is_whole = first.is_ok() && second.is_ok() && is_one_cell(out.as_slice());
+    let is_memory = is_memory(second) && is_memory(reader.finish()) && out.is_empty();
+    turn_of(alloc, is_whole, is_memory)
+}
+
+/// Feeds the file in pieces that end at these places, and asks for the refusal behind the first piece.
+fn feed_once(alloc: Global, begun: usize, fed: usize, nth: usize) -> Turn {
+    let (front, end) = ONE_CELL.split_at(fed.min(ONE_CELL.len()));
+    let (begin, middle) = front.split_at(begun.min(front.len()));
     let mut out = Vec::new(alloc);
     let mut reader = EditReader::new(alloc, None);
     if reader.feed(begin, &mut out).is_err() {
         return Turn::Wrong;
     }
-    refuse(alloc, nth);
-    let first = reader.feed(middle, &mut out);
-    let second = reader.feed(end, &mut out);
-    let is_whole = first.is_ok() && second.is_ok() && out.as_slice() == [one_cell()].as_slice();
-    let memory = Err(EditFileError::Memory);
-    let is_memory = second == memory && reader.finish() == memory && out.is_empty();
-    turn_of(alloc, is_whole, is_memory)
+    feed_on(alloc, &mut reader, &mut out, (middle, end), nth)
 }
 
 #[test]
-fn each_growth_of_feed_refused(rt: HostRuntime) -> Result<(), Fail> {
-    refuse_each!(nth => feed_once(rt.alloc(), nth))
-}
-
-/// Feeds the file in two pieces, of which the first ends inside its head, and asks for the refusal before both.
-fn feed_head_once(alloc: Global, nth: usize) -> Turn {
-    let (begin, rest) = ONE_CELL.split_at(5);
-    let mut out = Vec::new(alloc);
-    let mut reader = EditReader::new(alloc, None);
-    refuse(alloc, nth);
-    let first = reader.feed(begin, &mut out);
-    let second = reader.feed(rest, &mut out);
-    let is_whole = first.is_ok() && second.is_ok() && out.as_slice() == [one_cell()].as_slice();
-    let memory = Err(EditFileError::Memory);
-    let is_memory = second == memory && reader.finish() == memory && out.is_empty();
-    turn_of(alloc, is_whole, is_memory)
+fn each_growth_of_feed_refused(rt: HostRuntime) {
+    // the first piece ends inside the head, and the second inside the record
+    assert!(rt; refuse_each!(nth => feed_once(rt.alloc(), 5, 30, nth)));
 }
 
 #[test]
-fn each_growth_of_a_head_and_a_record_refused(rt: HostRuntime) -> Result<(), Fail> {
-    refuse_each!(nth => feed_head_once(rt.alloc(), nth))
+fn each_growth_of_a_head_and_a_record_refused(rt: HostRuntime) {
+    // the first piece has no byte, and the second ends inside the head
+    assert!(rt; refuse_each!(nth => feed_once(rt.alloc(), 0, 5, nth)));
 }
 
 /// Whether a reader that was fed the file tells its world and that it ended well, without memory.
 fn tells_without_memory(alloc: Global, reader: &EditReader) -> bool {
     refuse(alloc, 1);
-    let is_told = reader.world() == Some(7) && reader.finish() == Ok(());
+    let is_told = reader.world() == Some(7) && reader.finish().is_ok();
     !was_refused(alloc) && is_told
 }
 
+/// The same of a reader that is fed the file.
+fn is_told(alloc: Global) -> bool {
+    let mut out = Vec::new(alloc);
+    let mut reader = EditReader::new(alloc, None);
+    reader.feed(ONE_CELL, &mut out).is_ok() && tells_without_memory(alloc, &reader)
+}
+
 #[test]
-fn what_a_reader_tells_takes_no_memory_refused(rt: HostRuntime) -> Result<(), Fail> {
-    let mut out = Vec::new(rt.alloc());
-    let mut reader = EditReader::new(rt.alloc(), None);
-    reader.feed(ONE_CELL, &mut out)?;
-    assert!(rt; tells_without_memory(rt.alloc(), &reader));
-    Ok(())
+fn what_a_reader_tells_takes_no_memory_refused(rt: HostRuntime) {
+    assert!(rt; is_told(rt.alloc()));
 }
 
 /// How a call came out that answered so and left these bytes, of which those are wanted.
 fn written(alloc: Global, answer: Result<(), EditFileError>, out: &[u8], wanted: &[u8]) -> Turn {
-    let is_memory = answer == Err(EditFileError::Memory) && out.is_empty();
+    let is_memory = is_memory(answer) && out.is_empty();
     turn_of(alloc, answer.is_ok() && out == wanted, is_memory)
 }
 
@@ -112,21 +116,24 @@ fn write_head_once(alloc: Global, nth: usize) -> Turn {
 }
 
 #[test]
-fn each_growth_of_write_head_refused(rt: HostRuntime) -> Result<(), Fail> {
-    refuse_each!(nth => write_head_once(rt.alloc(), nth))
+fn each_growth_of_write_head_refused(rt: HostRuntime) {
+    assert!(rt; refuse_each!(nth => write_head_once(rt.alloc(), nth)));
 }
 
-fn write_edit_once(alloc: Global, nth: usize) -> Turn {
+/// Writes an edit, which has to fit.
+fn write_once(alloc: Global, edit: &Edit, nth: usize) -> Turn {
+    if check(alloc, edit).is_err() {
+        return Turn::Wrong;
+    }
     let mut out = Vec::new(alloc);
-    let edit = one_cell();
     refuse(alloc, nth);
-    let answer = write(alloc, &edit, &mut out);
+    let answer = write_edit(edit, &mut out);
     written(alloc, answer, out.as_slice(), ONE_CELL.split_at(12).1)
 }
 
 #[test]
-fn each_growth_of_write_edit_refused(rt: HostRuntime) -> Result<(), Fail> {
-    refuse_each!(nth => write_edit_once(rt.alloc(), nth))
+fn each_growth_of_write_edit_refused(rt: HostRuntime) {
+    assert!(rt; refuse_each!(nth => write_once(rt.alloc(), &one_cell(), nth)));
 }
 
 /// The first time that is too late: no edit file spells it.
@@ -135,28 +142,28 @@ const TOO_LATE: Stamp = Stamp {
     replica: 1,
 };
 
+const IN_TIME: Stamp = Stamp {
+    time: 9,
+    replica: 1,
+};
+
+/// Whether an edit is refused for a stamp.
+fn has_bad_stamp(alloc: Global, stamp: Stamp, op: Op) -> bool {
+    is_bad_stamp(check(alloc, &Edit { stamp, op }))
+}
+
+fn is_bad_stamp(answer: Result<(), EditError>) -> bool {
+    matches!(answer, Err(EditError::BadEdit(Cause::Stamp)))
+}
+
 #[test]
-fn times_that_are_too_late(rt: HostRuntime) -> Result<(), Fail> {
-    let made_then = Edit {
-        stamp: TOO_LATE,
-        op: Op::TextAdd,
-    };
-    let name = Name {
-        stamp: TOO_LATE,
-        index: 0,
-    };
-    let names_it = Edit {
-        stamp: Stamp {
-            time: 9,
-            replica: 1,
+fn times_that_are_too_late(rt: HostRuntime) {
+    let late = StatId {
+        name: Name {
+            stamp: TOO_LATE,
+            index: 0,
         },
-        op: Op::StatRemove(StatId { name }),
     };
-    for edit in [&made_then, &names_it] {
-        assert_eq!(rt;
-            check(rt.alloc(), edit),
-            Err(EditError::BadEdit(Cause::Stamp))
-        );
-    }
-    Ok(())
+    assert!(rt; has_bad_stamp(rt.alloc(), TOO_LATE, Op::TextAdd));
+    assert!(rt; has_bad_stamp(rt.alloc(), IN_TIME, Op::StatRemove(late)));
 }

@@ -9,6 +9,8 @@ mod chains;
 #[cfg(test)]
 mod code;
 #[cfg(test)]
+mod documents;
+#[cfg(test)]
 mod edits;
 #[cfg(test)]
 mod growths;
@@ -16,6 +18,8 @@ mod growths;
 mod hosts;
 #[cfg(test)]
 mod inbox;
+#[cfg(test)]
+mod pieces;
 #[cfg(test)]
 mod programs;
 #[cfg(test)]

@@ -1,8 +1,7 @@
-//! Programs of objects are read with each growth refused, and kinds of tiles are matched. What is read of other programs is in the tables
-//! of `test_readings`.
+//! Programs of objects are read with each growth refused, and kinds of tiles are matched. What is read of other programs is in the rows
+//! of readings.
 use crate::growths::{refuse_each, turn_of};
 use std::alloc::Global;
-use std::test::Fail;
 use test_rows::{Turn, refuse};
 use zed_script::{Program, TileKind, next_command, standing_at};
 use zed_types::Tile;
@@ -41,21 +40,27 @@ fn parse_once(alloc: Global, nth: usize) -> Turn {
 }
 
 #[test]
-fn parsing_refused(rt: HostRuntime) -> Result<(), Fail> {
-    refuse_each!(nth => parse_once(rt.alloc(), nth))
+fn parsing_refused(rt: HostRuntime) {
+    assert!(rt; refuse_each!(nth => parse_once(rt.alloc(), nth)));
+}
+
+/// Where the command at the front of a program ends.
+fn end_of_command(alloc: Global, program: &[u8]) -> Option<usize> {
+    match next_command(alloc, program, 0) {
+        Ok((_, end)) => Some(end),
+        Err(_) => None,
+    }
 }
 
 fn read_command_once(alloc: Global, nth: usize) -> Turn {
     refuse(alloc, nth);
-    match next_command(alloc, b"then if not any red gem", 0) {
-        Ok((_, end)) => turn_of(alloc, end == 23, false),
-        Err(_) => turn_of(alloc, false, true),
-    }
+    let end = end_of_command(alloc, b"then if not any red gem");
+    turn_of(alloc, end == Some(23), end.is_none())
 }
 
 #[test]
-fn reading_a_command_refused(rt: HostRuntime) -> Result<(), Fail> {
-    refuse_each!(nth => read_command_once(rt.alloc(), nth))
+fn reading_a_command_refused(rt: HostRuntime) {
+    assert!(rt; refuse_each!(nth => read_command_once(rt.alloc(), nth)));
 }
 
 /// Where the instruction at the front of a program ends.
@@ -75,6 +80,6 @@ fn read_instructions_once(alloc: Global, nth: usize) -> Turn {
 }
 
 #[test]
-fn reading_an_instruction_refused(rt: HostRuntime) -> Result<(), Fail> {
-    refuse_each!(nth => read_instructions_once(rt.alloc(), nth))
+fn reading_an_instruction_refused(rt: HostRuntime) {
+    assert!(rt; refuse_each!(nth => read_instructions_once(rt.alloc(), nth)));
 }

@@ -1,7 +1,6 @@
 //! Runs at their bounds, and each growth refused.
 use crate::growths::{refuse_each, turn_of};
 use std::alloc::Global;
-use std::test::Fail;
 use test_rows::{Turn, refuse, was_refused};
 use zed_runs::{RunsError, read_runs, write_runs};
 use zed_types::{TILES, Tile};
@@ -52,49 +51,91 @@ fn board_with(things: &[(usize, Tile)]) -> [Tile; TILES] {
     tiles
 }
 
-#[test]
-fn boards_are_written(rt: HostRuntime) -> Result<(), Fail> {
+/// Whether a board is written behind other bytes by these runs.
+fn is_written(alloc: Global, tiles: &[Tile; TILES], runs: &[u8]) -> bool {
+    let mut out = Vec::new(alloc);
+    let _ = out.push(b'k');
+    match write_runs(tiles, &mut out) {
+        Ok(()) => out.first() == Some(&b'k') && out.ends_with(runs) && out.len() == 1 + runs.len(),
+        Err(_) => false,
+    }
+}
+
+fn are_written(alloc: Global) -> bool {
     for (things, runs) in BOARDS {
-        let mut out = b"kept".to_vec(rt.alloc())?;
-        write_runs(&board_with(things), &mut out)?;
-        assert!(rt; out.starts_with(b"kept") && out.ends_with(runs));
-        assert_eq!(rt; out.len(), 4 + runs.len());
+        if !is_written(alloc, &board_with(things), runs) {
+            return false;
+        }
     }
-    Ok(())
+    true
 }
 
 #[test]
-fn reading_counts_of_zero_takes_no_memory_refused(rt: HostRuntime) -> Result<(), Fail> {
-    let text = [0, 0, 0, 0, 0, 0, 0, 0, 0, 0, 0, 0, 0, 0, 0, 255, 0, 0, 7];
-    refuse(rt.alloc(), 1);
-    let answer = read_runs(&text);
-    assert!(rt; !was_refused(rt.alloc()));
-    let (tiles, used) = answer?;
-    assert_eq!(rt; used, 18);
-    for tile in &tiles {
-        assert_eq!(rt; *tile, EMPTY);
-    }
-    assert_eq!(rt; read_runs(&text[..17]).err(), Some(RunsError::Truncated));
-    assert_eq!(rt; read_runs(&text[..15]).err(), Some(RunsError::Truncated));
-    Ok(())
+fn boards_are_written(rt: HostRuntime) {
+    assert!(rt; are_written(rt.alloc()));
 }
 
-/// Writes runs behind other bytes, which stay where a growth is refused.
-fn write_once(alloc: Global, tiles: &[Tile; TILES], nth: usize) -> Result<Turn, Fail> {
-    let mut out = b"kept".to_vec(alloc)?;
+/// The runs of a board that is empty, and a byte behind them: five of count 0, which is 256, and one that is longer than what is left.
+const ZEROS: &[u8] = &[0, 0, 0, 0, 0, 0, 0, 0, 0, 0, 0, 0, 0, 0, 0, 255, 0, 0, 7];
+
+fn is_empty(tiles: &[Tile; TILES]) -> bool {
+    for tile in tiles {
+        if *tile != EMPTY {
+            return false;
+        }
+    }
+    true
+}
+
+/// Whether runs are read without memory, up to the byte behind them.
+fn are_read(alloc: Global) -> bool {
+    refuse(alloc, 1);
+    let answer = read_runs(ZEROS);
+    let was_refused = was_refused(alloc);
+    match answer {
+        Ok((tiles, used)) => !was_refused && used == 18 && is_empty(&tiles),
+        Err(_) => false,
+    }
+}
+
+/// Whether the first so many bytes of the runs are told to be cut.
+fn is_cut(length: usize) -> bool {
+    matches!(
+        read_runs(ZEROS.split_at(length.min(ZEROS.len())).0),
+        Err(RunsError::Truncated)
+    )
+}
+
+#[test]
+fn reading_counts_of_zero_takes_no_memory_refused(rt: HostRuntime) {
+    assert!(rt; are_read(rt.alloc()) && is_cut(17) && is_cut(15));
+}
+
+/// Writes runs behind another byte, which stays where a growth is refused.
+fn write_once(alloc: Global, tiles: &[Tile; TILES], nth: usize) -> Turn {
+    let mut out = Vec::new(alloc);
+    let _ = out.push(b'k');
     refuse(alloc, nth);
     let answer = write_runs(tiles, &mut out);
-    let is_whole = answer == Ok(()) && out.len() == 4504;
-    let is_memory = answer == Err(RunsError::Memory) && out.as_slice() == b"kept".as_slice();
-    Ok(turn_of(alloc, is_whole, is_memory))
+    let is_whole = answer.is_ok() && out.len() == 4501;
+    let is_memory = matches!(answer, Err(RunsError::Memory)) && out.as_slice() == b"k".as_slice();
+    turn_of(alloc, is_whole, is_memory)
 }
 
-#[test]
-fn writing_refused(rt: HostRuntime) -> Result<(), Fail> {
-    // Each tile is another than the one before, so there are 1,500 runs.
+/// Tiles of which each is another than the one before, so that there are 1,500 runs.
+fn stripes() -> [Tile; TILES] {
     let mut tiles = [EMPTY; TILES];
     for place in 0..TILES {
         tiles[place].colour = (place % 2) as u8;
     }
-    refuse_each!(nth => write_once(rt.alloc(), &tiles, nth)?)
+    tiles
+}
+
+fn writes_each(alloc: Global, tiles: &[Tile; TILES]) -> bool {
+    refuse_each!(nth => write_once(alloc, tiles, nth))
+}
+
+#[test]
+fn writing_refused(rt: HostRuntime) {
+    assert!(rt; writes_each(rt.alloc(), &stripes()));
 }

@@ -1,7 +1,6 @@
 //! Stats by example, and growths refused.
 use crate::growths::{refuse_each, turn_of};
-use std::alloc::AllocError;
-use std::test::Fail;
+use std::alloc::{AllocError, Global};
 use test_rows::{Turn, refuse, was_refused};
 use zed_stats::{StatField, StatValues, Stats};
 use zed_types::{Stamp, StatByte, StatFields, StatId, StatSetting, ThirdParameter};
@@ -28,14 +27,17 @@ fn values(x: u8, y: u8) -> StatValues {
     }
 }
 
-/// A board with its player, and stats that were added at (5,1), (3,1) and (4,1) in this order.
-fn board(rt: HostRuntime) -> Result<Stats, Fail> {
-    let mut stats = Stats::new(rt.alloc());
-    stats.add(stat(2), true, values(30, 12))?;
-    stats.add(stat(5), false, values(1, 5))?;
-    stats.add(stat(3), false, values(1, 3))?;
-    stats.add(stat(4), false, values(1, 4))?;
-    Ok(stats)
+/// Adds a stat that is no player at a place; whether that went well.
+fn add(stats: &mut Stats, time: u64, x: u8, y: u8) -> bool {
+    stats.add(stat(time), false, values(x, y)).is_ok()
+}
+
+/// Adds a board's player, and stats at (1,5), (1,3) and (1,4) in this order; whether that went well.
+fn is_begun(stats: &mut Stats) -> bool {
+    stats.add(stat(2), true, values(30, 12)).is_ok()
+        && add(stats, 5, 1, 5)
+        && add(stats, 3, 1, 3)
+        && add(stats, 4, 1, 4)
 }
 
 /// Whether a byte of the stat at a place is so.
@@ -53,74 +55,97 @@ fn is_at(stats: &Stats, place: usize, id: StatId, is_removed: bool) -> bool {
     name == id && stat.removed == is_removed
 }
 
-#[test]
-fn a_removed_stat_keeps_its_fields_and_stays_removed(rt: HostRuntime) -> Result<(), Fail> {
-    let mut stats = board(rt)?;
+/// Whether a stat that is removed, changed and added again stays removed, as it was changed.
+fn stays_removed(stats: &mut Stats) -> bool {
     stats.remove(stat(3));
     stats.set_field(stat(3), at(9), StatSetting::Byte(StatByte::X, 60));
-    stats.add(stat(3), false, values(7, 7))?;
-    assert_eq!(rt; stats.count(), 4);
-    assert!(rt; is_at(&stats, 1, stat(3), true));
-    assert!(rt; is_byte(&stats, 1, StatByte::X, 60) && is_byte(&stats, 1, StatByte::Y, 3));
-    Ok(())
+    add(stats, 3, 7, 7)
+        && stats.count() == 4
+        && is_at(stats, 1, stat(3), true)
+        && is_byte(stats, 1, StatByte::X, 60)
+        && is_byte(stats, 1, StatByte::Y, 3)
 }
 
-/// A board with so many stats, the latest first.
-fn crowd(rt: HostRuntime, count: u64) -> Result<Stats, Fail> {
-    let mut stats = Stats::new(rt.alloc());
+fn removed_stays(alloc: Global) -> bool {
+    let mut stats = Stats::new(alloc);
+    is_begun(&mut stats) && stays_removed(&mut stats)
+}
+
+#[test]
+fn a_removed_stat_keeps_its_fields_and_stays_removed(rt: HostRuntime) {
+    assert!(rt; removed_stays(rt.alloc()));
+}
+
+/// Adds so many stats, the latest first.
+fn put_crowd(stats: &mut Stats, count: u64) {
     for k in 0..count {
-        stats.add(stat(100 - k % 50), false, values(1, 1))?;
+        let _ = add(stats, 100 - k % 50, 1, 1);
     }
-    Ok(stats)
+}
+
+/// Whether the first stat is the one that was put in front, behind so many.
+fn has_first(stats: &Stats, count: u64) -> bool {
+    stats.number_of(stat(50)) == Some(0) && stats.count() as u64 == count.saturating_add(1)
 }
 
 /// Adds a stat in front of so many with a growth refused. Then all is as before, and it is added when that is tried again.
-fn add_once(rt: HostRuntime, count: u64, nth: usize) -> Result<Turn, Fail> {
-    let mut stats = crowd(rt, count)?;
-    refuse(rt.alloc(), nth);
+fn add_to(alloc: Global, stats: &mut Stats, count: u64, nth: usize) -> Turn {
+    refuse(alloc, nth);
     let answer = stats.add(stat(50), false, values(1, 6));
-    let is_added = answer.is_ok() && stats.number_of(stat(50)) == Some(0);
-    let is_as_before = !stats.has(stat(50)) && stats.count() as u64 == count;
-    let is_memory = answer == Err(AllocError) && is_as_before;
-    let turn = turn_of(rt.alloc(), is_added, is_memory);
-    stats.add(stat(50), false, values(1, 6))?;
-    if stats.number_of(stat(50)) == Some(0) && stats.count() as u64 == count.saturating_add(1) {
-        Ok(turn)
+    let is_kept = !stats.has(stat(50)) && stats.count() as u64 == count;
+    let is_memory = answer == Err(AllocError) && is_kept;
+    let turn = turn_of(alloc, answer.is_ok() && has_first(stats, count), is_memory);
+    if add(stats, 50, 1, 6) && has_first(stats, count) {
+        turn
     } else {
-        Ok(Turn::Wrong)
+        Turn::Wrong
     }
 }
 
-/// Refuses each growth of `add` in turn.
-fn sweep_add(rt: HostRuntime, count: u64) -> Result<(), Fail> {
-    refuse_each!(nth => add_once(rt, count, nth)?)
+fn add_once(alloc: Global, count: u64, nth: usize) -> Turn {
+    let mut stats = Stats::new(alloc);
+    put_crowd(&mut stats, count);
+    add_to(alloc, &mut stats, count, nth)
+}
+
+fn adds_each(alloc: Global, count: u64) -> bool {
+    refuse_each!(nth => add_once(alloc, count, nth))
 }
 
 #[test]
-fn each_growth_of_add_refused(rt: HostRuntime) -> Result<(), Fail> {
+fn each_growth_of_add_refused(rt: HostRuntime) {
     for count in 0..9 {
-        sweep_add(rt, count)?;
+        assert!(rt; adds_each(rt.alloc(), count));
     }
-    Ok(())
 }
 
-/// Whether a stat of a board is found, changed, added again, removed and read, all without memory.
-fn changes_without_memory(rt: HostRuntime, stats: &mut Stats) -> bool {
-    refuse(rt.alloc(), 1);
-    let is_known = stats.add(stat(4), false, values(9, 9)).is_ok();
+/// Whether a stat is changed, added again and removed, all without memory.
+fn changes_without_memory(alloc: Global, stats: &mut Stats) -> bool {
+    refuse(alloc, 1);
+    let is_known = add(stats, 4, 9, 9);
     stats.set_field(stat(4), at(9), StatSetting::Byte(StatByte::X, 60));
     stats.set_field(stat(4), at(9), StatSetting::Leader(Some(stat(3))));
     stats.remove(stat(3));
-    let is_found = stats.number_of(stat(4)) == Some(1) && stats.has(stat(3));
-    let is_read = is_at(stats, 1, stat(3), true)
+    let is_told = tells_changed(stats);
+    !was_refused(alloc) && is_known && is_told
+}
+
+/// Whether what was changed is told.
+fn tells_changed(stats: &Stats) -> bool {
+    stats.number_of(stat(4)) == Some(1)
+        && stats.has(stat(3))
+        && is_at(stats, 1, stat(3), true)
         && is_at(stats, 2, stat(4), false)
-        && is_byte(stats, 2, StatByte::X, 60);
-    !was_refused(rt.alloc()) && is_known && is_found && is_read && stats.count() == 4
+        && is_byte(stats, 2, StatByte::X, 60)
+        && stats.count() == 4
+}
+
+fn board_changes(alloc: Global) -> bool {
+    let mut stats = Stats::new(alloc);
+    is_begun(&mut stats) && changes_without_memory(alloc, &mut stats)
 }
 
 #[test]
-fn changes_take_no_memory_refused(rt: HostRuntime) -> Result<(), Fail> {
-    let mut stats = board(rt)?;
-    assert!(rt; changes_without_memory(rt, &mut stats));
-    Ok(())
+fn changes_take_no_memory_refused(rt: HostRuntime) {
+    assert!(rt; board_changes(rt.alloc()));
 }

@@ -1,7 +1,6 @@
 //! A text that is cut into thousands of runs, by letters typed and deleted at random places, beside a plain list of its bytes.
-use std::alloc::{AllocError, Global};
-use std::test::Fail;
-use zed_document::{Document, State};
+use std::alloc::Global;
+use zed_document::{Delivered, Document, State};
 use zed_op::{Edit, Op};
 use zed_types::{ByteRange, Bytes, ElemId, Stamp, TextId};
 
@@ -9,6 +8,11 @@ use zed_types::{ByteRange, Bytes, ElemId, Stamp, TextId};
 const BEGUN: u32 = 3_000;
 
 const TYPED: u64 = 2_000;
+
+/// The edit `nth` has the time 4 + nth * SPREAD, and that of the time 4 + k is the edit k * BACK, each without multiples of TYPED.
+const SPREAD: u64 = 777;
+
+const BACK: u64 = 713;
 
 /// At every so many edits the document is compared with the list.
 const COMPARED: u64 = 250;
@@ -24,6 +28,11 @@ fn text() -> TextId {
     TextId::new(stamp(2, 1), 0)
 }
 
+/// A byte of the insertion that the text begins with.
+fn begun(index: u32) -> ElemId {
+    ElemId::new(stamp(3, 1), index)
+}
+
 /// A number below a bound, by another number and in no order of these; 0 where the bound is 0.
 fn scattered(nth: u64, bound: usize) -> usize {
     let mixed = nth.wrapping_mul(0x9e37_79b9_7f4a_7c15);
@@ -31,12 +40,12 @@ fn scattered(nth: u64, bound: usize) -> usize {
     (scattered >> 33) as usize % bound.max(1)
 }
 
-/// A number of a byte. None is greater.
-fn narrow(number: usize) -> u32 {
-    match u32::try_from(number) {
-        Ok(narrow) => narrow,
-        Err(_) => u32::MAX,
-    }
+/// An edit: a letter that is put behind a byte, or the deletion of the byte.
+#[derive(Clone, Copy)]
+struct Typed {
+    stamp: Stamp,
+    byte: ElemId,
+    letter: Option<u8>,
 }
 
 /// A byte as it is listed.
@@ -47,29 +56,27 @@ struct Listed {
     is_alive: bool,
 }
 
-/// Puts the bytes of an insertion into a list at a place.
-fn put(listed: &mut Vec<Listed>, at: usize, stamp: Stamp, bytes: &[u8]) -> Result<(), AllocError> {
-    for (index, byte) in bytes.iter().enumerate() {
-        let new = Listed {
-            name: ElemId::new(stamp, narrow(index)),
-            byte: *byte,
+/// The list of the bytes that the text begins with.
+fn listed(alloc: Global) -> Vec<Listed> {
+    let mut listed = Vec::new(alloc);
+    for index in 0..BEGUN {
+        let _ = listed.push(Listed {
+            name: begun(index),
+            byte: b'A' + (index % 26) as u8,
             is_alive: true,
-        };
-        let place = at.saturating_add(index).min(listed.len());
-        listed.insert(place, new)?;
+        });
     }
-    Ok(())
+    listed
 }
 
 /// The place behind a byte, or the head.
-fn behind(listed: &[Listed], after: Option<ElemId>) -> usize {
-    match after {
-        Some(name) => match listed.iter().position(|there| there.name == name) {
-            Some(place) => place.saturating_add(1),
-            None => 0,
-        },
-        None => 0,
+fn behind(listed: &[Listed], name: ElemId) -> usize {
+    for (place, there) in listed.iter().enumerate() {
+        if there.name == name {
+            return place.saturating_add(1);
+        }
     }
+    0
 }
 
 /// From a place on, the first one behind all bytes of later stamps.
@@ -84,170 +91,180 @@ fn past_later(listed: &[Listed], from: usize, stamp: Stamp) -> usize {
     at
 }
 
-fn kill(listed: &mut [Listed], range: &ByteRange) {
-    let first = ElemId::new(range.stamp, range.first);
+fn kill(listed: &mut [Listed], name: ElemId) {
     for there in listed.iter_mut() {
-        if there.name == first {
+        if there.name == name {
             there.is_alive = false;
         }
     }
 }
 
-/// Puts an edit into a list: one that comes in any order, or one that comes behind all edits of earlier stamps.
-fn list(listed: &mut Vec<Listed>, edit: &Edit, in_order: bool) -> Result<(), AllocError> {
-    match &edit.op {
-        Op::TextInsert(_, after, bytes) => {
-            let mut at = behind(listed, *after);
-            if !in_order {
-                at = past_later(listed, at, edit.stamp);
-            }
-            put(listed, at, edit.stamp, bytes.as_slice())
+/// Puts the letter of an edit into a list.
+fn put(listed: &mut Vec<Listed>, at: usize, stamp: Stamp, byte: u8) {
+    let new = Listed {
+        name: ElemId::new(stamp, 0),
+        byte,
+        is_alive: true,
+    };
+    let _ = listed.insert(at.min(listed.len()), new);
+}
+
+/// Puts an edit into a list that takes edits as they come, in any order of their stamps.
+fn list(listed: &mut Vec<Listed>, typed: &Typed) {
+    match typed.letter {
+        Some(letter) => {
+            let at = past_later(listed, behind(listed, typed.byte), typed.stamp);
+            put(listed, at, typed.stamp, letter)
         }
-        Op::TextDelete(_, range) => {
-            kill(listed, range);
-            Ok(())
-        }
-        _ => Ok(()),
+        None => kill(listed, typed.byte),
     }
 }
 
-/// The list of edits in stamp order.
-fn listed_of(alloc: Global, edits: &[Edit]) -> Result<Vec<Listed>, AllocError> {
-    let mut listed = Vec::new(alloc);
-    for edit in edits {
-        list(&mut listed, edit, true)?;
+/// Puts an edit into a list that takes edits in the order of their stamps.
+fn list_next(listed: &mut Vec<Listed>, typed: &Typed) {
+    match typed.letter {
+        Some(letter) => {
+            let at = behind(listed, typed.byte);
+            put(listed, at, typed.stamp, letter)
+        }
+        None => kill(listed, typed.byte),
     }
-    Ok(listed)
 }
 
-/// Whether a text reads as a list does.
-fn reads_as(document: &Document, listed: &[Listed]) -> Result<bool, Fail> {
-    let bytes = document.text(text())?;
-    let mut at: usize = 0;
+/// The list of these edits in the order of their stamps.
+fn rising(alloc: Global, all: &[Typed]) -> Vec<Listed> {
+    let mut listed = listed(alloc);
+    for k in 0..TYPED {
+        if let Some(typed) = all.get((k.saturating_mul(BACK) % TYPED) as usize) {
+            list_next(&mut listed, typed);
+        }
+    }
+    listed
+}
+
+/// The live bytes of a list.
+fn alive(alloc: Global, listed: &[Listed]) -> Vec<u8> {
+    let mut bytes = Vec::new(alloc);
     for there in listed {
         if there.is_alive {
-            if bytes.get(at) != Some(&there.byte) {
-                return Ok(false);
-            }
-            at = at.saturating_add(1);
+            let _ = bytes.push(there.byte);
         }
     }
-    Ok(at == bytes.len())
+    bytes
 }
 
-/// What the edit does that comes after so many, at the place of a random byte of an earlier stamp.
-fn typed(alloc: Global, listed: &[Listed], nth: u64) -> Result<Edit, AllocError> {
-    // all times from 4 on come once, scattered
-    let time = nth.saturating_mul(777) % TYPED + 4;
+/// Whether the text reads as a list does.
+fn reads_as(alloc: Global, document: &Document, listed: &[Listed]) -> bool {
+    match document.text(text()) {
+        Ok(bytes) => bytes.as_slice() == alive(alloc, listed).as_slice(),
+        Err(_) => false,
+    }
+}
+
+/// What the edit does that comes after so many: something at a random byte of an earlier stamp. Its own stamp is that of a random time, and
+/// each time comes once.
+fn typed(listed: &[Listed], nth: u64) -> Typed {
+    let time = nth.saturating_mul(SPREAD) % TYPED + 4;
     let stamp = stamp(time, (time % 3) as u16 + 1);
-    let mut name = ElemId::new(self::stamp(3, 1), narrow(scattered(nth, BEGUN as usize)));
+    let mut byte = begun(scattered(nth, BEGUN as usize) as u32);
     if let Some(there) = listed.get(scattered(nth, listed.len())) {
         if there.name.name.stamp.is_before(stamp) {
-            name = there.name;
+            byte = there.name;
         }
     }
-    let op = if nth % 8 == 7 {
-        let (stamp, index) = (name.name.stamp, name.name.index);
-        let range = ByteRange {
-            stamp,
-            first: index,
-            last: index,
-        };
-        Op::TextDelete(text(), range)
+    let letter = if nth % 8 == 7 {
+        None
     } else {
-        let letter = b'a' + (nth % 26) as u8;
-        Op::TextInsert(text(), Some(name), Bytes::new([letter].to_vec(alloc)?))
+        Some(b'a' + (nth % 26) as u8)
     };
-    Ok(Edit { stamp, op })
+    Typed {
+        stamp,
+        byte,
+        letter,
+    }
 }
 
-/// A document and a list that take the same edits.
-#[derive(Drop)]
-struct Pair {
-    document: Document,
-    listed: Vec<Listed>,
-    /// How many runs were looked at.
-    visits: u64,
+/// Delivers an edit; what is told of it.
+fn deliver(document: &mut Document, stamp: Stamp, op: Op) -> Option<Delivered> {
+    document.deliver(Edit { stamp, op }).ok()
 }
 
-impl Pair {
-    /// Takes an edit, and says whether it was taken at once, with at least one and at most so many runs looked at.
-    fn takes(&mut self, edit: Edit, most: u64) -> Result<bool, Fail> {
-        list(&mut self.listed, &edit, false)?;
-        let told = self.document.deliver(edit)?;
-        self.visits = self.visits.saturating_add(told.visits);
-        let is_alone = told.state == State::Taken && told.woken == 0;
-        Ok(is_alone && 1 <= told.visits && told.visits <= most)
-    }
-
-    /// Begins the text.
-    fn begins(&mut self, alloc: Global) -> Result<(), Fail> {
-        self.document.deliver(Edit {
-            stamp: stamp(2, 1),
-            op: Op::TextAdd,
-        })?;
-        let mut bytes = Vec::new(alloc);
-        for k in 0..BEGUN {
-            bytes.push(b'A' + (k % 26) as u8)?;
+/// Delivers what was typed.
+fn deliver_typed(alloc: Global, document: &mut Document, typed: &Typed) -> Option<Delivered> {
+    let name = typed.byte.name;
+    match typed.letter {
+        Some(letter) => {
+            let bytes = [letter].to_vec(alloc).ok()?;
+            let op = Op::TextInsert(text(), Some(typed.byte), Bytes::new(bytes));
+            deliver(document, typed.stamp, op)
         }
-        let begun = Edit {
-            stamp: stamp(3, 1),
-            op: Op::TextInsert(text(), None, Bytes::new(bytes)),
-        };
-        list(&mut self.listed, &begun, false)?;
-        self.visits = self.document.deliver(begun)?.visits;
-        Ok(())
-    }
-
-    /// Takes all edits, and says which is the first that comes out otherwise.
-    fn types(&mut self, alloc: Global) -> Result<Option<u64>, Fail> {
-        for nth in 0..TYPED {
-            let edit = typed(alloc, &self.listed, nth)?;
-            // each edit before cut the text into two runs more at most
-            let most = nth.saturating_mul(2).saturating_add(2);
-            if !self.takes(edit, most)? {
-                return Ok(Some(nth));
-            }
-            if nth % COMPARED == 0 && !reads_as(&self.document, &self.listed)? {
-                return Ok(Some(nth));
-            }
+        None => {
+            let range = ByteRange {
+                stamp: name.stamp,
+                first: name.index,
+                last: name.index,
+            };
+            deliver(document, typed.stamp, Op::TextDelete(text(), range))
         }
-        Ok(None)
     }
+}
 
-    /// Whether the text reads as both lists do, the one in the order of arrival and that in stamp order, and no more runs were looked
-    /// at than a block has for each edit: sought from the front it would be thrice as many.
-    fn ends(&self, alloc: Global) -> Result<bool, Fail> {
-        let rising = listed_of(alloc, self.document.edits())?;
-        Ok(
-            reads_as(&self.document, &self.listed)?
-                && reads_as(&self.document, &rising)?
-                && self.document.visits(text())? == self.visits
-                && self.visits <= TYPED * BLOCK,
-        )
+/// Delivers the bytes that the text begins with; how many runs were looked at.
+fn begin(document: &mut Document, bytes: Vec<u8>) -> Option<u64> {
+    deliver(document, stamp(2, 1), Op::TextAdd)?;
+    let op = Op::TextInsert(text(), None, Bytes::new(bytes));
+    Some(deliver(document, stamp(3, 1), op)?.visits)
+}
+
+/// Whether an edit was taken at once, with at least one and at most so many runs looked at.
+fn is_taken(told: &Delivered, most: u64) -> bool {
+    told.state == State::Taken && told.woken == 0 && 1 <= told.visits && told.visits <= most
+}
+
+/// Delivers all edits, and keeps them; how many runs were looked at, or nothing where one comes out otherwise than in the list.
+fn types(
+    alloc: Global,
+    document: &mut Document,
+    listed: &mut Vec<Listed>,
+    all: &mut Vec<Typed>,
+) -> Option<u64> {
+    let mut visits = begin(document, alive(alloc, listed.as_slice()))?;
+    for nth in 0..TYPED {
+        let typed = typed(listed.as_slice(), nth);
+        let _ = all.push(typed);
+        list(listed, &typed);
+        let told = deliver_typed(alloc, document, &typed)?;
+        visits = visits.saturating_add(told.visits);
+        // each edit before cut the text into two runs more at most
+        let most = nth.saturating_mul(2).saturating_add(2);
+        let is_compared = nth % COMPARED == 0;
+        if !is_taken(&told, most) || (is_compared && !reads_as(alloc, document, listed)) {
+            return None;
+        }
     }
+    Some(visits)
+}
+
+/// Whether no more runs were looked at than a block has for each edit: sought from the front it would be thrice as many.
+fn are_few(document: &Document, visits: u64) -> bool {
+    document.visits(text()) == Ok(visits) && visits <= TYPED * BLOCK
 }
 
 // A function that owns a document is dear to prove, so this one does little else.
-fn first_wrong(alloc: Global) -> Result<Option<u64>, Fail> {
-    let mut pair = Pair {
-        document: Document::new(alloc, 7),
-        listed: Vec::new(alloc),
-        visits: 0,
-    };
-    pair.begins(alloc)?;
-    if let Some(nth) = pair.types(alloc)? {
-        return Ok(Some(nth));
-    }
-    if pair.ends(alloc)? {
-        Ok(None)
-    } else {
-        Ok(Some(TYPED))
+fn is_typed(alloc: Global, listed: &mut Vec<Listed>, all: &mut Vec<Typed>) -> bool {
+    let mut document = Document::new(alloc, 7);
+    match types(alloc, &mut document, listed, all) {
+        Some(visits) => {
+            are_few(&document, visits)
+                && reads_as(alloc, &document, listed.as_slice())
+                && reads_as(alloc, &document, rising(alloc, all.as_slice()).as_slice())
+        }
+        None => false,
     }
 }
 
 #[test]
-fn letters_are_typed_at_random_places(rt: HostRuntime) -> Result<(), Fail> {
-    assert_eq!(rt; first_wrong(rt.alloc())?, None);
-    Ok(())
+fn letters_are_typed_at_random_places(rt: HostRuntime) {
+    let alloc = rt.alloc();
+    assert!(rt; is_typed(alloc, &mut listed(alloc), &mut Vec::new(alloc)));
 }
