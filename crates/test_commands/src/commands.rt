@@ -1,140 +1,113 @@
 //! Commands over a host in memory.
-use crate::row::Outcome;
-use crate::said::put_lines;
-use std::alloc::{AllocError, Global};
-use std::fmt::Write;
-use test_devices::{Parts, Setup, Traces};
-use test_rows::{Line, Names, Trouble, refuse, was_refused};
+use std::alloc::Global;
+use test_devices::{Desk, Outcome, Parts};
 use zed_host::{Host, MemoryHost, ReadError};
 use zed_link::Link;
 use zed_program::run;
 use zed_session::{Keys, Screen};
 
-/// How a command ended.
-#[derive(Clone, Copy)]
-pub struct Run {
-    pub status: u8,
-    pub was_refused: bool,
-}
-
-/// Runs words with these links and devices, with the growth of this number refused, or with none where it is 0.
+/// Runs words with these links and devices. Its status.
 // Who makes a boxed link or device can't hand it out, so they are boxed here, where they are handed in, and made elsewhere.
-fn run_over(
-    alloc: Global,
-    words: &[String],
-    host: &mut MemoryHost,
-    parts: Parts,
-    nth: usize,
-) -> Run {
-    let Parts {
-        screen,
-        keys,
-        wires,
-        sinks,
-    } = parts;
-    let mut links: Vec<Box<dyn Link>> = Vec::new(alloc);
-    for wire in wires {
+fn run_over(words: &[String], host: &mut MemoryHost, parts: Parts, desk: &Desk) -> u8 {
+    let mut links: Vec<Box<dyn Link>> = Vec::new(desk.alloc);
+    for wire in parts.wires {
         let _ = links.push(wire);
     }
-    for sink in sinks {
+    for sink in parts.sinks {
         let _ = links.push(sink);
     }
-    let mut screen: Box<dyn Screen> = screen;
-    let mut keys: Box<dyn Keys> = keys;
-    refuse(alloc, nth);
-    let status = run(
-        alloc,
+    let mut screen: Box<dyn Screen> = parts.screen;
+    let mut keys: Box<dyn Keys> = parts.keys;
+    desk.refuse();
+    run(
+        desk.alloc,
         words,
         host,
         &mut links,
         screen.as_mut(),
         keys.as_mut(),
-    );
-    let was_refused = nth > 0 && was_refused(alloc);
-    Run {
-        status,
-        was_refused,
+    )
+}
+
+/// A host that lets so many calls pass, with so many files.
+fn next_host(desk: &mut Desk) -> MemoryHost {
+    let passing = desk.tape.option().unwrap_or(u64::MAX);
+    let files = desk.tape.number();
+    let mut host = MemoryHost::new(desk.alloc, passing);
+    for _ in 0..files {
+        let name = desk.tape.word();
+        let bytes = desk.tape.bytes(desk.alloc);
+        let _ = host.write(name, bytes.as_slice());
+    }
+    host
+}
+
+/// The words that are left in a row.
+fn next_words(desk: &mut Desk) -> Vec<String> {
+    let mut words = Vec::new(desk.alloc);
+    for _ in 0..usize::MAX {
+        if desk.tape.is_done() {
+            break;
+        }
+        put_word(desk.alloc, desk.tape.word(), &mut words);
+    }
+    words
+}
+
+fn put_word(alloc: Global, word: &str, words: &mut Vec<String>) {
+    if let Ok(word) = String::from_str(alloc, word) {
+        let _ = words.push(word);
     }
 }
 
-/// The words of a line.
-fn words_of(alloc: Global, text: &str) -> Result<Vec<String>, AllocError> {
-    let mut words = Vec::new(alloc);
-    if text.is_empty() {
-        return Ok(words);
+/// Tells a command: whether a growth was refused in it, its status, how many calls of the host failed, and what it said.
+fn tell_run(host: &MemoryHost, status: u8, desk: &mut Desk) {
+    let was_refused = desk.was_refused();
+    let failures = host.failures();
+    if was_refused {
+        desk.outcome = if failures == 0 {
+            Outcome::Refused
+        } else {
+            Outcome::Device
+        };
     }
-    for word in text.split(' ') {
-        words.push(String::from_str(alloc, word)?)?;
-    }
-    Ok(words)
+    desk.told.number(was_refused as u64);
+    desk.told.number(status as u64);
+    desk.told.number(failures);
+    desk.told.bytes(host.printed());
+    desk.told.bytes(host.complained());
+    desk.told.end()
 }
 
-/// Appends what a command says on the standard error. Of words that are no command only that something is said.
-fn put_complaint(status: u8, said: &[u8], out: &mut String) -> Result<(), AllocError> {
-    if status != 2 {
-        return put_lines("complains", said, out);
-    }
-    if said.is_empty() {
-        out.push_str("complains nothing\n")
-    } else {
-        out.push_str("complains something\n")
-    }
-}
-
-fn put_failures(host: &MemoryHost, out: &mut String) -> Result<(), AllocError> {
-    match host.failures() {
-        0 => Ok(()),
-        failures => writeln!(out, "calls failed: {failures}"),
-    }
-}
-
-/// Appends how a command ended, and what it said.
-fn put_run(host: &MemoryHost, status: u8, out: &mut String) -> Result<(), AllocError> {
-    writeln!(out, "status {status}")?;
-    put_lines("prints", host.printed(), out)?;
-    put_complaint(status, host.complained(), out)?;
-    put_failures(host, out)
-}
-
-fn outcome_of(ran: Run, host: &MemoryHost) -> Outcome {
-    if !ran.was_refused {
-        Outcome::Whole
-    } else if host.failures() == 0 {
-        Outcome::Refused
-    } else {
-        Outcome::Device
+/// Tells what a file holds.
+fn tell_file(host: &mut MemoryHost, desk: &mut Desk) {
+    match host.read(desk.tape.word()) {
+        Ok(bytes) => {
+            desk.told.bytes(bytes.as_slice());
+            desk.told.end()
+        }
+        Err(ReadError::NoFile) => desk.told.last("no file"),
+        Err(ReadError::File) => desk.told.last("this call fails"),
+        Err(ReadError::Memory) => desk.told.last("out of memory"),
     }
 }
 
-/// Runs the words of a line, and appends how that ended.
-pub fn put_command(
-    alloc: Global,
-    line: &mut Line,
-    host: &mut MemoryHost,
-    setup: &Setup,
-    traces: &Traces,
-    nth: usize,
-    out: &mut String,
-) -> Result<Outcome, Trouble> {
-    let words = words_of(alloc, line.text())?;
-    let parts = Parts::of(alloc, setup, traces)?;
-    let ran = run_over(alloc, words.as_slice(), host, parts, nth);
-    put_run(host, ran.status, out)?;
-    Ok(outcome_of(ran, host))
+/// Does the rows behind a command.
+fn look_on(host: &mut MemoryHost, desk: &mut Desk) {
+    for _ in 0..usize::MAX {
+        match desk.next() {
+            b'.' => return,
+            b'h' => tell_file(host, desk),
+            letter => desk.look(letter),
+        }
+    }
 }
 
-/// Appends what a file is.
-pub fn put_file(
-    host: &mut MemoryHost,
-    names: &Names,
-    name: &str,
-    out: &mut String,
-) -> Result<(), Trouble> {
-    match host.read(name) {
-        Ok(bytes) => names.put_told(bytes.as_slice(), out)?,
-        Err(ReadError::NoFile) => out.push_str("no file\n")?,
-        Err(ReadError::File) => out.push_str("this call fails\n")?,
-        Err(ReadError::Memory) => return Err(Trouble::Memory),
-    }
-    Ok(())
+/// Runs the words of a row over a new host, and does the rows behind it.
+pub fn run_command(parts: Parts, desk: &mut Desk) {
+    let mut host = next_host(desk);
+    let words = next_words(desk);
+    let status = run_over(words.as_slice(), &mut host, parts, desk);
+    tell_run(&host, status, desk);
+    look_on(&mut host, desk)
 }

@@ -1,51 +1,61 @@
-//! `test_commands FILE..` runs the cases of books on commands over hosts in memory, on sessions and
-//! on links, and prints what differs. With `--refused` in front it runs the sections that have such
-//! a row, with each growth of memory of that row refused in turn. docs/COMMANDS-IN-ROWS.md has the
-//! layout of books.
+//! `test_commands` does the rows that come in over the standard input: commands over hosts in
+//! memory, sessions, and bytes that go over links. It tells what comes of them, and compares
+//! nothing. docs/COMMANDS-IN-ROWS.md has the layout of rows.
 #![tactic(auto)]
 
-mod acts;
-mod book;
 mod commands;
-mod received;
-mod records;
-mod report;
-mod row;
-mod said;
-mod section;
-mod sessions;
-mod sight;
-mod stage;
-mod told;
-mod turn;
 
-use book::Book;
-use report::{compare_all, sweep_all};
-use std::alloc::Global;
-use std::process::ExitCode;
-use std::{fs, io};
-use test_rows::{Asked, Report, Trouble, exit_of};
+use commands::run_command;
+use std::alloc::{AllocError, Global};
+use std::io;
+use test_devices::{Desk, Outcome, Parts, play_session};
+use test_rows::{MOST, Tape};
 
-fn report_of(alloc: Global, is_refusing: bool, file: &str, text: &str) -> Result<Report, Trouble> {
-    match Book::of(alloc, text) {
-        Ok(book) if is_refusing => sweep_all(alloc, file, &book),
-        Ok(book) => compare_all(alloc, file, &book),
-        Err(fault) => Ok(Report::at_fault(alloc, file, fault)?),
+/// Does the rows of a section.
+fn do_rows(desk: &mut Desk) -> Result<(), AllocError> {
+    let parts = Parts::next(desk)?;
+    match desk.next() {
+        b'x' => run_command(parts, desk),
+        b's' => {
+            play_session(parts, desk);
+            desk.look_on()
+        }
+        _ => {
+            drop(parts);
+            desk.look_on()
+        }
     }
+    Ok(())
 }
 
-/// Goes through a book; whether all of it holds.
-fn do_task(rt: &HostRuntime, is_refusing: bool, file: &str) -> io::Result<bool> {
-    let text = fs::read_to_string(rt, file)?;
-    report_of(rt.alloc(), is_refusing, file, text.as_str())?.print(rt)
+/// Does the rows of a section with a growth refused, or with none where that is 0.
+fn take_turn<'a>(alloc: Global, tape: Tape<'a>, nth: usize) -> Result<Desk<'a>, AllocError> {
+    let mut desk = Desk::new(alloc, tape, nth)?;
+    do_rows(&mut desk)?;
+    Ok(desk)
 }
 
-fn main(rt: HostRuntime) -> io::Result<ExitCode> {
-    let asked = Asked::of(&rt)?;
-    let mut all_is_well = true;
-    for file in asked.files.iter() {
-        let is_well = do_task(&rt, asked.is_refusing, file.as_str())?;
-        all_is_well = all_is_well && is_well;
+/// Does the rows of a section once, or with each growth refused in turn until none is left. What is behind them.
+fn take_section<'a>(rt: &HostRuntime, tape: Tape<'a>, first: usize) -> io::Result<Tape<'a>> {
+    for nth in first..MOST {
+        let desk = take_turn(rt.alloc(), tape, nth)?;
+        print!(rt; "{}end {:?}\n", desk.told.as_str(), desk.outcome)?;
+        if desk.outcome == Outcome::Whole {
+            return Ok(desk.tape);
+        }
     }
-    Ok(exit_of(all_is_well))
+    Ok(tape)
+}
+
+fn main(rt: HostRuntime) -> io::Result<()> {
+    let rows = io::read_to_string(rt.alloc(), rt.stdin())?;
+    let mut tape = Tape::new(rows.as_str());
+    for _ in 0..usize::MAX {
+        if !tape.next_row() {
+            break;
+        }
+        let first = tape.size();
+        tape = take_section(&rt, tape, first)?;
+    }
+    Ok(())
 }

@@ -1,11 +1,10 @@
-//! A screen and a source of keys over memory, which fail when a book wants it, and leave what they came to where it sees that.
+//! A screen and a source of keys over memory, which fail when rows want it, and leave what they came to where rows see that.
 ghost use Rattle.std.specs.Prelude.{None, Some};
 
-use crate::traces::{Counts, End, Ended, Traces};
-use std::alloc::AllocError;
+use crate::traces::{Counts, Trace};
+use std::alloc::Global;
 use std::cell::Cell;
 use std::collections::VecDeque;
-use std::rc::Rc;
 use zed_play::Key;
 use zed_screen::Frame;
 use zed_session::{DeviceFailed, Keys, Screen};
@@ -13,16 +12,22 @@ use zed_session::{DeviceFailed, Keys, Screen};
 /// When a device fails.
 #[derive(Clone, Copy)]
 pub enum Fails {
-    Never,
     Always,
-    /// At the call of this number, counted from 1.
+    /// At the call of this number, counted from 1; 0 is never.
     At(u64),
 }
 
 impl Fails {
+    /// At the call of a number, or always where there is none.
+    pub fn of(nth: Option<u64>) -> Fails {
+        match nth {
+            Some(nth) => Fails::At(nth),
+            None => Fails::Always,
+        }
+    }
+
     fn now(self, call: u64) -> bool {
         match self {
-            Fails::Never => false,
             Fails::Always => true,
             Fails::At(nth) => nth == call,
         }
@@ -35,21 +40,22 @@ pub struct MemoryScreen {
     last: Option<Frame>,
     failed: u64,
     fails: Fails,
-    frame: Rc<Cell<Option<Frame>>>,
-    counts: Rc<Cell<Counts>>,
-    end: End,
+    trace: Trace,
 }
 
 impl MemoryScreen {
-    pub fn new(fails: Fails, traces: &Traces) -> Result<MemoryScreen, AllocError> {
-        Ok(MemoryScreen {
+    /// One that doesn't fail.
+    pub fn new(trace: Trace) -> MemoryScreen {
+        MemoryScreen {
             last: None,
             failed: 0,
-            fails,
-            frame: Rc::clone(&traces.frame)?,
-            counts: Rc::clone(&traces.counts)?,
-            end: traces.end_of(Ended::Device)?,
-        })
+            fails: Fails::At(0),
+            trace,
+        }
+    }
+
+    pub fn set_fails(&mut self, fails: Fails) {
+        self.fails = fails;
     }
 }
 
@@ -77,12 +83,12 @@ impl Screen for MemoryScreen {
     ghost screen_foretells = { λ _. None };
 
     fn show(&mut self, frame: &Frame) -> Result<(), DeviceFailed> {
-        if self.fails.now(count_show(&self.counts)) {
+        if self.fails.now(count_show(&self.trace.traces.counts)) {
             self.failed = self.failed.saturating_add(1);
             return Err(DeviceFailed);
         }
         self.last = Some(*frame);
-        self.frame.set(Some(*frame));
+        self.trace.traces.frame.set(Some(*frame));
         Ok(())
     }
 
@@ -97,23 +103,27 @@ pub struct MemoryKeys {
     left: VecDeque<Key>,
     failed: u64,
     fails: Fails,
-    counts: Rc<Cell<Counts>>,
-    end: End,
+    trace: Trace,
 }
 
 impl MemoryKeys {
-    pub fn new(
-        left: VecDeque<Key>,
-        fails: Fails,
-        traces: &Traces,
-    ) -> Result<MemoryKeys, AllocError> {
-        Ok(MemoryKeys {
-            left,
+    /// One that has no keys, and doesn't fail.
+    pub fn new(alloc: Global, trace: Trace) -> MemoryKeys {
+        MemoryKeys {
+            left: VecDeque::new(alloc),
             failed: 0,
-            fails,
-            counts: Rc::clone(&traces.counts)?,
-            end: traces.end_of(Ended::Device)?,
-        })
+            fails: Fails::At(0),
+            trace,
+        }
+    }
+
+    pub fn set_fails(&mut self, fails: Fails) {
+        self.fails = fails;
+    }
+
+    /// Puts a key behind the others.
+    pub fn put(&mut self, key: Key) {
+        let _ = self.left.push_back(key);
     }
 }
 
@@ -125,7 +135,7 @@ impl Keys for MemoryKeys {
     ghost keys_foretell = { λ _. None };
 
     fn next(&mut self) -> Result<Option<Key>, DeviceFailed> {
-        if self.fails.now(count_key(&self.counts)) {
+        if self.fails.now(count_key(&self.trace.traces.counts)) {
             self.failed = self.failed.saturating_add(1);
             return Err(DeviceFailed);
         }

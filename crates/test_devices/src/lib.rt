@@ -1,15 +1,15 @@
-//! Devices, links and files over memory, as rows of books describe them: they fail when a book asks
-//! for it, and keep what came to them.
+//! Devices and links over memory, which fail when the rows of a script ask for it and keep what came
+//! to them; and rows that have a session with them, or send bytes over a link.
 #![tactic(auto)]
 
+mod desk;
 mod devices;
 mod parts;
-mod setup;
+mod receiving;
+mod sessions;
 mod traces;
 mod wires;
 
-pub use devices::{MemoryKeys, MemoryScreen};
+pub use desk::{Desk, Outcome};
 pub use parts::Parts;
-pub use setup::Setup;
-pub use traces::{Traces, put_front};
-pub use wires::{Sink, Wire};
+pub use sessions::play_session;

@@ -1,20 +1,16 @@
-//! Links over memory, which leave what they came to where a book sees it.
+//! Links over memory, which leave what they came to where rows see it.
 ghost use Rattle.std.specs.Prelude.{None, true};
 
-use crate::setup::Wired;
-use crate::traces::{Counts, End, Ended, Traces};
+use crate::traces::{Counts, Trace};
 use std::alloc::{AllocError, Global};
 use std::cell::Cell;
-use std::rc::Rc;
 use zed_link::{Link, LinkFailed, MemoryLink, Writes};
 
 /// A link over memory that leaves what it took when it is let go, and then tells whether it was read.
 pub struct Wire {
     link: MemoryLink,
     alloc: Global,
-    left: Rc<Cell<Option<Vec<u8>>>>,
-    counts: Rc<Cell<Counts>>,
-    end: End,
+    trace: Trace,
 }
 
 /// Counts what a link did that comes to its end.
@@ -30,16 +26,13 @@ fn count_link(counts: &Cell<Counts>, link: &MemoryLink) {
 
 impl Drop for Wire {
     fn drop(self) {
-        let Wire {
-            link,
-            alloc,
-            left,
-            counts,
-            end,
-        } = self;
-        left.set(Vec::from_slice(alloc, link.taken()).ok());
-        count_link(&counts, &link);
-        drop(end);
+        let Wire { link, alloc, trace } = self;
+        trace
+            .traces
+            .left
+            .set(Vec::from_slice(alloc, link.taken()).ok());
+        count_link(&trace.traces.counts, &link);
+        drop(trace)
     }
 }
 
@@ -76,8 +69,7 @@ pub struct Sink {
     at: usize,
     reads: u64,
     writes: Writes,
-    counts: Rc<Cell<Counts>>,
-    end: End,
+    trace: Trace,
 }
 
 /// Counts bytes that a link took.
@@ -115,7 +107,7 @@ impl Link for Sink {
 
     fn write(&mut self, bytes: &[u8]) -> Result<usize, LinkFailed> {
         self.writes.count(bytes);
-        count_taken(&self.counts, bytes.len());
+        count_taken(&self.trace.traces.counts, bytes.len());
         Ok(bytes.len())
     }
 
@@ -124,28 +116,26 @@ impl Link for Sink {
     }
 }
 
-/// The link that hands over these bytes, so many by a call, and of which so many calls pass before one fails.
-pub fn wire_of(alloc: Global, wired: &Wired, traces: &Traces) -> Result<Box<Wire>, AllocError> {
-    let handed = wired.handed.clone()?;
-    let wire = Wire {
-        link: MemoryLink::new(alloc, handed, wired.piece, wired.passing),
-        alloc,
-        left: Rc::clone(&traces.left)?,
-        counts: Rc::clone(&traces.counts)?,
-        end: traces.end_of(Ended::Link)?,
-    };
-    Ok(Box::new(alloc, wire)?)
+/// A link that hands over these bytes, so many by a call, and of which so many calls pass before one fails.
+pub fn wire_of(
+    alloc: Global,
+    handed: Vec<u8>,
+    piece: usize,
+    passing: Option<u64>,
+    trace: Trace,
+) -> Result<Box<Wire>, AllocError> {
+    let link = MemoryLink::new(alloc, handed, piece, passing);
+    Ok(Box::new(alloc, Wire { link, alloc, trace })?)
 }
 
-/// The link that hands over these bytes and takes all.
-pub fn sink_of(alloc: Global, wired: &Wired, traces: &Traces) -> Result<Box<Sink>, AllocError> {
+/// A link that hands over these bytes and takes all.
+pub fn sink_of(alloc: Global, handed: Vec<u8>, trace: Trace) -> Result<Box<Sink>, AllocError> {
     let sink = Sink {
-        handed: wired.handed.clone()?,
+        handed,
         at: 0,
         reads: 0,
         writes: Writes::NONE,
-        counts: Rc::clone(&traces.counts)?,
-        end: traces.end_of(Ended::Link)?,
+        trace,
     };
     Ok(Box::new(alloc, sink)?)
 }
