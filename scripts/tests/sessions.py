@@ -337,7 +337,7 @@ class Tape:
             return "yes" if answer == "Err(Stale)" else "no"
         if row.word in ("well", "repair"):
             return "yes" if answer.startswith("Ok(") else "no"
-        return answer
+        return pulled_of(answer)
 
     def seen_of_pull(self, row, told):
         edits, _, answer = next(told).partition(" ")
@@ -346,7 +346,7 @@ class Tape:
         if row.word == "judge":
             return ["fits" if answer.startswith("Ok(") else answer[len("Err(") : -1]]
         wanted = self.counters.number(row.words[3 if row.word == "receive" else 1])
-        return [answer, f"{edits} edits, {failures} failed"] + [f"{reads} reads"] * (int(reads) != wanted)
+        return [pulled_of(answer), f"{edits} edits, {failures} failed"] + [f"{reads} reads"] * (int(reads) != wanted)
 
     def seen_of_run(self, line):
         refused, status, failures, printed, complained = line.split(" ")[:5]
@@ -405,6 +405,12 @@ class Tape:
         return [f"gems {gems}, tick {tick}, {ending}"]
 
     met_stale = False
+
+
+def pulled_of(answer):
+    """What a pull answers, with the names of its counts."""
+    counts = re.fullmatch(r"Ok\(\((\d+), (\d+), (\d+)\)\)", answer)
+    return "Ok(Pulled {{ taken: {}, held: {}, known: {} }})".format(*counts.groups()) if counts else answer
 
 
 def front_of(spelled, whole, length):

@@ -13,7 +13,15 @@ fn receive_over(link: &mut MemoryLink, world: u64, desk: &mut Desk) {
 
 fn tell_pulled(document: &Document, pulled: Result<Pulled, LinkError>, desk: &mut Desk) {
     desk.told.size(document.edits().len());
-    desk.take(&pulled)
+    desk.take(&counts_of(pulled))
+}
+
+/// How many edits were taken, held and known.
+pub fn counts_of<E: Drop>(pulled: Result<Pulled, E>) -> Result<(usize, usize, usize), E> {
+    match pulled {
+        Ok(pulled) => Ok((pulled.taken, pulled.held, pulled.known)),
+        Err(error) => Err(error),
+    }
 }
 
 /// Pulls bytes, so many by a read, of which so many pass before one fails.

@@ -1,10 +1,10 @@
 //! Sessions: rows that make their calls, and that ask how they stand.
 use crate::desk::Desk;
 use crate::parts::Parts;
-use crate::receiving::document_of;
+use crate::receiving::{counts_of, document_of};
 use std::alloc::AllocFailed;
 use zed_link::Link;
-use zed_play::Play;
+use zed_play::{Ending, Play};
 use zed_screen::{ascii, draw_play};
 use zed_session::{HoldsDocument, Session, SessionError};
 use zed_types::BODY_LIMIT;
@@ -66,7 +66,12 @@ fn tell_play(play: Option<&Play>, desk: &mut Desk) {
     };
     desk.told.number(play.counters().counters.gems as u64);
     desk.told.number(play.tick() as u64);
-    desk.told.shown(&play.ending())
+    match play.ending() {
+        None => desk.told.last("None"),
+        Some(Ending::Left(_)) => desk.told.last("Some(Left)"),
+        Some(Ending::Died) => desk.told.last("Some(Died)"),
+        Some(Ending::Failed) => desk.told.last("Some(Failed)"),
+    }
 }
 
 /// Tells how a session stands, by a row that isn't a call.
@@ -145,7 +150,7 @@ fn have_session(file: Vec<u8>, parts: Parts, desk: &mut Desk) {
             Act::Show(board) => desk.take(&session.show(board, BODY_LIMIT)),
             Act::Play(board) => desk.take(&session.play(board, BODY_LIMIT)),
             Act::Push(link) => desk.take(&session.push(link)),
-            Act::Pull(link) => desk.take(&session.pull(link)),
+            Act::Pull(link) => desk.take(&counts_of(session.pull(link))),
             Act::Detach(place) => match session.detach(place) {
                 Ok(link) => {
                     drop(link);
