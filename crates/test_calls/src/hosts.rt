@@ -20,7 +20,10 @@ fn is_written(made: &Made, name: &str) -> bool {
 }
 
 fn is_print(made: &Made) -> bool {
-    matches!(made.asked, Asked::Print) && !made.failed
+    match &made.asked {
+        Asked::Print => !made.failed,
+        _ => false,
+    }
 }
 
 /// Whether it complained of five bytes.

@@ -127,7 +127,9 @@ fn open_once(alloc: Global, nth: usize) -> Option<Turn> {
     let Ok(made) = made_by(alloc, &edit) else {
         return None;
     };
-    let mut texts = begun(alloc)?;
+    let Some(mut texts) = begun(alloc) else {
+        return None;
+    };
     refuse(alloc, nth);
     let answer = texts.open(alloc, &edit, made.texts.as_slice());
     Some(turn_after(alloc, answer, texts.count(), 1))
@@ -160,7 +162,9 @@ fn insert_once(alloc: Global, nth: usize) -> Option<Turn> {
     let Ok(()) = check(alloc, &edit) else {
         return None;
     };
-    let mut texts = begun(alloc)?;
+    let Some(mut texts) = begun(alloc) else {
+        return None;
+    };
     refuse(alloc, nth);
     let answer = texts.take(alloc, &edit);
     Some(turn_after(alloc, answer, length_of(&texts), 0))
@@ -175,7 +179,9 @@ fn delete_once(alloc: Global, nth: usize) -> Option<Turn> {
     let Ok(()) = check(alloc, &edit) else {
         return None;
     };
-    let mut texts = begun(alloc)?;
+    let Some(mut texts) = begun(alloc) else {
+        return None;
+    };
     refuse(alloc, nth);
     let is_done = texts.take(alloc, &edit).is_ok();
     let is_one = texts.count() == 1;

@@ -40,6 +40,11 @@ fn scattered(nth: u64, bound: usize) -> usize {
     (scattered >> 33) as usize % bound.max(1)
 }
 
+/// A number of a byte. None is greater.
+fn narrow(number: usize) -> u32 {
+    u32::try_from(number).unwrap_or(u32::MAX)
+}
+
 /// An edit: a letter that is put behind a byte, or the deletion of the byte.
 #[derive(Clone, Copy)]
 struct Typed {
@@ -166,7 +171,7 @@ fn reads_as(alloc: Global, document: &Document, listed: &[Listed]) -> bool {
 fn typed(listed: &[Listed], nth: u64) -> Typed {
     let time = nth.saturating_mul(SPREAD) % TYPED + 4;
     let stamp = stamp(time, (time % 3) as u16 + 1);
-    let mut byte = begun(scattered(nth, BEGUN as usize) as u32);
+    let mut byte = begun(narrow(scattered(nth, BEGUN as usize)));
     if let Some(there) = listed.get(scattered(nth, listed.len())) {
         if there.name.name.stamp.is_before(stamp) {
             byte = there.name;

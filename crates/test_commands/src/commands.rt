@@ -71,8 +71,8 @@ fn tell_run(host: &MemoryHost, status: u8, desk: &mut Desk) {
             Outcome::Device
         };
     }
-    desk.told.number(was_refused as u64);
-    desk.told.number(status as u64);
+    desk.told.flag(was_refused);
+    desk.told.number(u64::from(status));
     desk.told.number(failures);
     desk.told.bytes(host.printed());
     desk.told.bytes(host.complained());

@@ -103,7 +103,7 @@ impl<'a> Desk<'a> {
         if was_refused {
             self.outcome = Outcome::Refused;
         }
-        self.told.number(was_refused as u64)
+        self.told.flag(was_refused)
     }
 
     /// Tells a call and what it answers.

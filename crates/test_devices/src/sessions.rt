@@ -64,8 +64,9 @@ fn tell_play(play: Option<&Play>, desk: &mut Desk) {
     let Some(play) = play else {
         return desk.told.last("none");
     };
-    desk.told.number(play.counters().counters.gems as u64);
-    desk.told.number(play.tick() as u64);
+    let gems = play.counters().counters.gems;
+    desk.told.number(u64::from(gems.unsigned_abs()));
+    desk.told.number(u64::from(play.tick()));
     match play.ending() {
         None => desk.told.last("None"),
         Some(Ending::Left(_)) => desk.told.last("Some(Left)"),

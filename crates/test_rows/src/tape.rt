@@ -77,7 +77,7 @@ impl<'a> Tape<'a> {
     }
 
     pub fn short(&mut self) -> u16 {
-        self.number() as u16
+        u16::try_from(self.number()).unwrap_or(0)
     }
 
     /// A number, or none: one more than the number, or 0.

@@ -46,6 +46,11 @@ impl Told {
         let _ = put_number(&mut self.text, number);
     }
 
+    /// Tells 1 where something is so, and 0 where it isn't.
+    pub fn flag(&mut self, is_so: bool) {
+        self.number(if is_so { 1 } else { 0 })
+    }
+
     /// Tells a count or a place.
     pub fn size(&mut self, size: usize) {
         self.number(size as u64)
