@@ -1,7 +1,7 @@
 """Draws boards of world files as ZZT 3.2 shows them, in the three forms of `zztool show`. It stands apart from the crates: on zzt.py, which
 reads world files, on Python's codec of code page 437, and on knowledge of ZZT's table of elements.
 
-Usage: pictures.py FOLDER                         makes the data of crates/test_look in FOLDER: worlds, and pictures of their boards
+Usage: pictures.py FOLDER                         makes the data of rows/looks in FOLDER: worlds, and pictures of their boards
        pictures.py ZZTED ZZTOOL ROOM WORLD ..     compares each board of world files, and the world of looks, with what zztool shows"""
 
 import subprocess
@@ -193,7 +193,7 @@ def world_of_looks():
 
 
 def make(folder):
-    """The data of crates/test_look: each picture, with the world file and the board that it is of."""
+    """The data of rows/looks: each picture, with the world file and the board that it is of."""
     world = world_of_looks()
     with open(f"{folder}/looks.zzt", "wb") as out:
         out.write(zzt.write(world))
