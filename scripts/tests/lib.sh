@@ -112,10 +112,12 @@ tell_counts() {
     [ "$failed" -eq 0 ] && [ "$((passed + untried))" -gt 0 ]
 }
 
-# Runs a test of this folder that is written in Python, with these words, and adds what it counted: its last line says that.
+# Runs a test of this folder that is written in Python, with these words, and adds what it counted: its last line says that. What it says
+# besides is told.
 runs_python() {
     local said=$room/said.python
     PYTHONDONTWRITEBYTECODE=1 python3 "$top/scripts/tests/$1" "${@:2}" > "$said" 2>&1 || true
+    untried=$((untried + $(grep -c "^$suite: not tried: " "$said" || true)))
     if [[ $(tail -n 1 "$said") =~ ^$suite:\ ([0-9]+)\ passed,\ ([0-9]+)\ failed$ ]]; then
         passed=$((passed + BASH_REMATCH[1])) failed=$((failed + BASH_REMATCH[2]))
         head -n -1 "$said"
@@ -162,25 +164,6 @@ finds_compiler() {
 # Compiles a file of this folder, which stands on no header, to a library that is loaded before a program.
 compiles_library() {
     "$compiler" -shared -fPIC -O2 -ffreestanding -nostdlib "${linker[@]}" -o "$2" "$top/scripts/tests/$1"
-}
-
-# Goes through a test in Python with these words, in the room, and takes its counts; what it says besides is told.
-runs_python() {
-    local file=$1
-    shift
-    if ! command -v python3 > "$room/python"; then
-        not_tried "all of $file: there is no python3"
-        return
-    fi
-    (cd "$room" && PYTHONDONTWRITEBYTECODE=1 python3 "$top/scripts/tests/$file" "$@" > "$room/told" 2>&1) || true
-    untried=$((untried + $(grep -c "^$suite: not tried: " "$room/told" || true)))
-    if [[ $(tail -n 1 "$room/told") =~ ^$suite:\ ([0-9]+)\ passed,\ ([0-9]+)\ failed$ ]]; then
-        passed=$((passed + BASH_REMATCH[1])) failed=$((failed + BASH_REMATCH[2]))
-        head -n -1 "$room/told"
-    else
-        tail -n 20 "$room/told"
-        fails "$file ended early"
-    fi
 }
 
 # Finds test_desk, which makes the calls that no program shows.
