@@ -62,7 +62,7 @@ struct Listed {
 }
 
 /// The list of the bytes that the text begins with.
-fn listed(alloc: Global) -> Vec<Listed> {
+fn first_list(alloc: Global) -> Vec<Listed> {
     let mut listed = Vec::new(alloc);
     for index in 0..BEGUN {
         let _ = listed.push(Listed {
@@ -138,7 +138,7 @@ fn list_next(listed: &mut Vec<Listed>, typed: &Typed) {
 
 /// The list of these edits in the order of their stamps.
 fn rising(alloc: Global, all: &[Typed]) -> Vec<Listed> {
-    let mut listed = listed(alloc);
+    let mut listed = first_list(alloc);
     for k in 0..TYPED {
         if let Some(typed) = all.get((k.saturating_mul(BACK) % TYPED) as usize) {
             list_next(&mut listed, typed);
@@ -168,7 +168,7 @@ fn reads_as(alloc: Global, document: &Document, listed: &[Listed]) -> bool {
 
 /// What the edit does that comes after so many: something at a random byte of an earlier stamp. Its own stamp is that of a random time, and
 /// each time comes once.
-fn typed(listed: &[Listed], nth: u64) -> Typed {
+fn next_typed(listed: &[Listed], nth: u64) -> Typed {
     let time = nth.saturating_mul(SPREAD) % TYPED + 4;
     let stamp = stamp(time, (time % 3) as u16 + 1);
     let mut byte = begun(narrow(scattered(nth, BEGUN as usize)));
@@ -235,7 +235,7 @@ fn types(
 ) -> Option<u64> {
     let mut visits = begin(document, alive(alloc, listed.as_slice()))?;
     for nth in 0..TYPED {
-        let typed = typed(listed.as_slice(), nth);
+        let typed = next_typed(listed.as_slice(), nth);
         let _ = all.push(typed);
         list(listed, &typed);
         let told = deliver_typed(alloc, document, &typed)?;
@@ -271,5 +271,5 @@ fn is_typed(alloc: Global, listed: &mut Vec<Listed>, all: &mut Vec<Typed>) -> bo
 #[test]
 fn letters_are_typed_at_random_places(rt: HostRuntime) {
     let alloc = rt.alloc();
-    assert!(rt; is_typed(alloc, &mut listed(alloc), &mut Vec::new(alloc)));
+    assert!(rt; is_typed(alloc, &mut first_list(alloc), &mut Vec::new(alloc)));
 }
