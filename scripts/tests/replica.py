@@ -54,13 +54,13 @@ class Replica:
         return saved if isinstance(saved, str) else f"{len(zzt.read(saved).boards)} boards, {len(saved)} bytes"
 
     def text(self, name):
-        """The bytes of a text: those of the program of a last stat of the title that has it. None if no stat can have it."""
+        """The bytes of a text: those of the program of a last stat of the title that has it. None if no stat can have it; a refusal of the world."""
         world = [] if (1, 0) in self.records else [editfile.record((1, 0), editfile.genesis(zzt.write(EMPTY)))]
         words = f"add stat board 1.0:0 (1,1) p1 0 p2 0 under empty(0) 0x00 step 0,0 cycle 1 p3 0 text {stamp_told(name[0])}:{name[1]}"
         stats = 0 if not isinstance(self.saved(*world), bytes) else len(zzt.read(self.saved(*world)).boards[0].stats)
         saved = self.saved(*world, editfile.record(LAST, editfile.op_of(words)))
         if not isinstance(saved, bytes):
-            return f"refused: {saved}"
+            return saved
         title = zzt.read(saved).boards[0]
         if len(title.stats) != stats + 1:
             return None

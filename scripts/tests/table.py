@@ -10,6 +10,7 @@ COUNTS = Counts("exchanges")
 USUAL = 20000
 REPEATED = 4
 STATES = ["taken", "held", "known"]
+OVER = ["BoardsOver", "StatsOver", "BoardOver"]
 
 
 # ---- how answers are spelled
@@ -340,7 +341,10 @@ class Table:
                 editfile.quoted(bytes(data)) + unlike(result_of(length)[0] == len(data) and visits[0] == "Ok")
                 + unlike(is_there and appended == data) + unlike(replayed_length == len(data) and result_of(replayed)[0] == data)
             ]  # fmt: skip
-            self.shown(row, told, lambda: [editfile.quoted(self.replicas[who].text(name) or b"")])
+            # a world over a limit of world files shows no text
+            by_programs = self.replicas[who].text(name)
+            if not isinstance(by_programs, str) or by_programs.split(" ")[0] not in OVER:
+                self.shown(row, told, lambda: [editfile.quoted(by_programs or b"")])
             return told
 
         return seen
