@@ -200,7 +200,7 @@ class Script:
 
     def run(self):
         asked = "".join(f"{line}\n" for line in self.lines)
-        ran = subprocess.run([self.program, self.world], input=asked, capture_output=True, text=True, timeout=120, env=self.env)
+        ran = subprocess.run([self.program, self.world], input=asked, capture_output=True, text=True, timeout=600, env=self.env)
         blocks = []
         for line in ran.stdout.splitlines()[1:]:
             if line.startswith("did ") or line == "unknown":
