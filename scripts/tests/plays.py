@@ -40,6 +40,14 @@ def is_so(what, seen, wanted):
             print(f"  {mark}: {str(line)[:300]}")
 
 
+def is_printed(what, seen, wanted):
+    """The same of a program's status, lines and complaint: of the lines the first is told that differs."""
+    if seen != wanted:
+        at = next((i for i, pair in enumerate(zip(seen[1], wanted[1])) if pair[0] != pair[1]), 0)
+        seen, wanted = ([it[0], f"{len(it[1])} lines", *it[1][at : at + 1], it[2]] for it in (seen, wanted))
+    is_so(what, seen, wanted)
+
+
 # ---- what is to be seen
 
 
@@ -173,6 +181,11 @@ def rows_of(cells):
     return [text[i : i + 80] for i in range(0, 2000, 80)]
 
 
+def printed(lines):
+    """The same lines as a program prints them, cut again: a message may hold the byte that ends a line."""
+    return "".join(f"{line}\n" for line in lines).split("\n")
+
+
 def trimmed(rows):
     return [row.rstrip(" ") for row in rows]
 
@@ -302,7 +315,7 @@ class Stage:
             if made.returncode:
                 raise Fault(f"zzted new: {made.stderr.decode()}")
         ran = subprocess.run([program, *map(str, words), self.edits], input=typed.encode(), capture_output=True, timeout=120)
-        return ran.returncode, ran.stdout.decode("latin-1").splitlines(), ran.stderr.decode()
+        return ran.returncode, ran.stdout.decode("latin-1").split("\n"), ran.stderr.decode()
 
     def plays(self, what, playtest):
         """Compares a playtest with one of `zzted play`, and its end with one of `zztool play`."""
@@ -311,30 +324,31 @@ class Stage:
             return
         ends = ending(now) or [f"tick {now.one('tick')[0]}"]
         if not playtest.goes:
-            letters, more, end = playtest.letters, b"", (0, playtest.rows + ["> " + it.decode("latin-1") for it in now.bytes("line")] + ends, "")
+            messages = ["> " + it.decode("latin-1") for it in now.bytes("line")]
+            letters, more, end = playtest.letters, b"", (0, printed(playtest.rows + messages + ends), "")
             if playtest.lacks:
                 letter, lacking = playtest.lacking
                 letters, more = letters + letter, b"".join(it.to_bytes(2, "little") for it in lacking)
-                end = 1, playtest.rows, "zzted: NoWords\n"
+                end = 1, printed(playtest.rows), "zzted: NoWords\n"
             chance = self.put("words", words + more)
-            is_so(f"{what}: zzted play", self.run(self.zzted, "play", "--big", 0, chance, typed=letters), end)
+            is_printed(f"{what}: zzted play", self.run(self.zzted, "play", "--big", 0, chance, typed=letters), end)
         chance, keys = self.put("words", words), self.put("keys", playtest.letters.encode())
         status, shown, said = self.run(self.zztool, "play", *["--boards"] * playtest.goes, "--words", chance, "--keys", keys, 0)
         report = "\n".join(shown).rpartition("\x1b[?1049l")[2].encode("latin-1").decode().split("\n")
         wanted = ["> " + "".join(map(pictures.character, it)) for it in now.bytes("line")] + ends
-        is_so(f"{what}: zztool play", (status, report, said), (0, wanted, ""))
+        is_printed(f"{what}: zztool play", (status, report, said), (0, printed(wanted), ""))
         with open(chance, "rb") as used:
             is_so(f"{what}: the words that zztool used", used.read(), words)
 
     def shows(self, what, board, drawn):
         """Compares the pictures of a board with those of `zzted show` and `zztool show`, and those with others."""
         if drawn.has("NoBoard"):
-            is_so(f"{what}: zzted show", self.run(self.zzted, "show", "--big", board), (1, [], "zzted: NoBoard\n"))
+            is_printed(f"{what}: zzted show", self.run(self.zzted, "show", "--big", board), (1, [""], "zzted: NoBoard\n"))
             return
-        is_so(f"{what}: zzted show", self.run(self.zzted, "show", "--big", board), (0, rows_of(drawn.pairs("cells")), ""))
+        is_printed(f"{what}: zzted show", self.run(self.zzted, "show", "--big", board), (0, printed(rows_of(drawn.pairs("cells"))), ""))
         for form, text in zip(([], ["--plain"], ["--svg"]), drawn.texts):
             shown = self.run(self.zztool, "show", *form, board)
-            is_so(f"{what}: zztool show {form}", shown, (0, text.bytes("text")[0].decode("latin-1").splitlines(), ""))
+            is_printed(f"{what}: zztool show {form}", shown, (0, text.bytes("text")[0].decode("latin-1").split("\n"), ""))
 
     def begins(self, what, board, opened):
         chance = self.put("words", b"")
@@ -380,11 +394,12 @@ def compare(book, zzted, zztool, test_play, room):
     for case in cases:
         stage, playtests = Stage(zzted, zztool, room, case.file()), []
         for act, answers in asked_of(case, Script(test_play, stage.world)):
-            seen = look(stage, act.at, act, answers, playtests)
-            is_so(f"{act.at}: {act.line}", seen, act.wanted)
+            what = f"{os.path.basename(book)}:{act.at}"
+            seen = look(stage, what, act, answers, playtests)
+            is_so(f"{what}: {act.line}", seen, act.wanted)
             acts += seen == act.wanted
         for number, playtest in enumerate(playtests, 1):
-            stage.plays(f"{book}: {case.name}: playtest {number}", playtest)
+            stage.plays(f"{os.path.basename(book)}: {case.name}: playtest {number}", playtest)
     print(f"plays: {os.path.basename(book)}: {len(cases)} cases, {acts} acts hold{', and others not' if failed > before else ''}")
 
 
