@@ -1,13 +1,13 @@
 //! What an edit file has that another file lacks.
-ghost use Rattle.std.specs.Prelude.{◌≡◌, ◌≢◌, ◌↔◌, ◌⊎◌, Contains, Err, IfOk, IsTrue, MatchOption, MatchResult, None, Ok, Some, false};
+ghost use Rattle.std.specs.Prelude.{◌≡◌, ◌≢◌, ◌↔◌, ◌⊎◌, Contains, Err, IfOk, IsTrue, MatchOption, MatchResult, None, Ok, OnOk, Some, false};
 ghost use Rattle.zed_op.specs.declared.op.Edit.{Edit as TheEdit};
-ghost use Rattle.zed_op.specs.Set.{IsRising, set_of};
+ghost use Rattle.zed_op.specs.Set.{IsRising, set_of, with_edit};
 ghost use Rattle.zed_loss.specs.Loss.{Has, HasAll, IsEditFile, IsFaulty, IsNoFile};
 
 use std::alloc::{AllocError, Global};
 use zed_editfile::{EditFileError, EditReader, one_reading};
 use zed_history::{History, spot_of};
-use zed_op::{Edit, edit_joins_a_set, sets_rise};
+use zed_op::{Edit, sets_rise};
 
 // The edits of an edit file, in its order, and the number of its world.
 #[derive(Drop)]
@@ -48,19 +48,27 @@ fn read(alloc: Global, bytes: &[u8]) -> Result<Option<FileEdits>, AllocError>
     }
 }
 
+// Adds an edit, unless one with its stamp is there.
+fn gather(history: &mut History, edit: Edit) -> Result<(), AllocError>
+    requires { IsRising history.old }
+    ensures { OnOk result (history.new ≡ with_edit edit history.old) }
+{
+    history.seek(edit.stamp);
+    match history.find(edit.stamp) {
+        Some(_) => Ok(()),
+        None => history.add(edit),
+    }
+}
+
 // Edits in stamp order, each once. Of two with one stamp the first counts.
 fn in_order(alloc: Global, edits: Vec<Edit>) -> Result<Vec<Edit>, AllocError>
     ensures set { IfOk result (λ set. set.items ≡ set_of edits.items) }
     ensures rising { IfOk result (λ set. IsRising set.items) }
 {
     sets_rise();
-    edit_joins_a_set();
     let mut history = History::of(Vec::new(alloc));
     for edit in edits {
-        history.seek(edit.stamp);
-        if history.find(edit.stamp).is_none() {
-            history.add(edit)?;
-        }
+        gather(&mut history, edit)?;
     }
     Ok(history.close())
 }
