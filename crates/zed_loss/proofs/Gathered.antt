@@ -1,6 +1,5 @@
 -- Edits gathered one after the other into a set.
-use Rattle.std.proofs.Common.{◌≡◌, Bool, true, false, cond, List, [], ◌∷◌, Some, refl, ap, sym}
-use Rattle.std.specs.Prelude.{Contains}
+use Rattle.std.proofs.Common.{◌≡◌, Bool, true, false, cond, List, [], ◌∷◌, Some, refl, ap}
 use Rattle.zed_types.specs.Stamp.{before, same_stamp}
 use Rattle.zed_types.proofs.StampOrder.{before_asym, before_differs_after, before_irrefl, same_stamp-itself, same_stamp-true}
 use Rattle.zed_op.specs.declared.op.Edit.{Edit}

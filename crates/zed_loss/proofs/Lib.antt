@@ -1,2 +1,3 @@
+mod Covered
 mod Files
 mod Gathered

@@ -1,4 +1,4 @@
-use Rattle.std.proofs.Common.{◌≡◌, ◌∙◌, ◌⊎◌, ℕ, Option, Some, None, Ok, Err, ap, sym, subst}
+use Rattle.std.proofs.Common.{◌≡◌, ◌∙◌, ◌⊎◌, ℕ, Option, Some, None, Ok, ap, sym, subst}
 use Rattle.std.specs.Prelude.{MatchOption}
 use Rattle.zed_editfile.specs.Stream.{Progress}
 use Rattle.zed_loss.specs.Loss.{IsFaulty}
