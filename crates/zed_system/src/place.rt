@@ -72,9 +72,7 @@ impl Keeping {
             return write(rt, name, Ok(found), bytes);
         }
         write_keeping(rt, name, found, &mut old.file, &mut self.kept, bytes)?;
-        for part in ["kept the old ", name, " as ", self.kept.as_str(), "\n"] {
-            self.line.push_str(part)?;
-        }
+        write!(self.line, "kept the old {name} as {}\n", self.kept.as_str())?;
         Ok(())
     }
 }
