@@ -2,7 +2,7 @@
 use crate::pictures::{put_board, put_played};
 use crate::sheet::{Sheet, refuse};
 use crate::telling::{put_effects, put_play, put_scene};
-use std::alloc::Global;
+use std::alloc::{AllocError, Global};
 use zed_oop::{Scene, turn};
 use zed_play::{Key, Play, PlayError, Way};
 use zed_world::{World, read_world};
@@ -45,6 +45,18 @@ fn next(
         Ok(Some(next)) => Ok(next),
         Ok(None) => Err(PlayError::NoBoard),
         Err(_) => Err(PlayError::Memory),
+    }
+}
+
+/// A copy of a scene that is there, or else of the board of a playtest that began.
+fn copy_of(
+    alloc: Global,
+    scene: &Option<Scene>,
+    play: &Option<Play>,
+) -> Option<Result<Scene, AllocError>> {
+    match scene {
+        Some(scene) => Some(scene.copy(alloc)),
+        None => Some(play.as_ref()?.board().copy(alloc)),
     }
 }
 
@@ -120,14 +132,10 @@ impl<'a> Stage<'a> {
 
     /// Copies the board of the playtest, or once more the copy that is there.
     fn copy(&mut self, growth: u16) -> Option<()> {
-        let board = match &self.scene {
-            Some(scene) => scene,
-            None => self.play.as_ref()?.board(),
-        };
         refuse(self.alloc, growth);
-        let copied = board.copy(self.alloc);
+        let copied = copy_of(self.alloc, &self.scene, &self.play);
         self.sheet.did(self.alloc);
-        if let Ok(scene) = copied {
+        if let Ok(scene) = copied? {
             put_scene(&scene, &mut self.sheet);
             self.scene = Some(scene);
         }
