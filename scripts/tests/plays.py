@@ -427,7 +427,8 @@ class Call:
             case "turn":
                 return memory
             case "opened":
-                return memory and len(answer.lines) == 2
+                # the playtest that was opened before stays
+                return memory and answer.lines[2:] == plain[at].lines[2:]
             case "key":
                 # it has failed, and is otherwise as it was; so a further step is refused
                 opened, again = answers[at - 1], answers[at + 1]
