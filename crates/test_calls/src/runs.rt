@@ -92,10 +92,11 @@ fn are_read(alloc: Global) -> bool {
     refuse(alloc, 1);
     let answer = read_runs(ZEROS);
     let was_refused = was_refused(alloc);
-    match answer {
-        Ok((tiles, used)) => !was_refused && used == 18 && is_empty(&tiles),
-        Err(_) => false,
-    }
+    let Ok(read) = answer else {
+        return false;
+    };
+    let (tiles, used) = read;
+    !was_refused && used == 18 && is_empty(&tiles)
 }
 
 /// Whether the first so many bytes of the runs are told to be cut.
