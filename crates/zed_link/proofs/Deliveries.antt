@@ -74,12 +74,18 @@ pub counted_more : (d : Replica) (xs ys mid : List Edit) (old got new : Pulled) 
 counted_more d xs ys mid old got new all o g is =
     is ∙ ap (λ z. plus z got) o ∙ ap (plus (tally (states d.edits xs))) g ∙ sym (tally_more (states d.edits xs) (states mid ys)) ∙ ap tally (sym (states_more d xs ys mid all))
 
+-- after edits that were all delivered memory ran out at one
+pub one_lacks : (d m : Replica) (done rest all : List Edit) (one : Edit) (left : List Edit) → m.world ≡ d.world → m.is_stale ≡ d.is_stale
+    → all ≡ done ++ one ∷ rest → AllDelivered d done m.edits → MayTakeMemoryFor m one → left ≡ m.edits → StopsForMemory d all left
+one_lacks d m done rest all one left w s whole came may same =
+    (done, one, rest, whole, subst (AllDelivered d done) (sym same) came, may_take d m one left s same may)
+
 -- after edits that were all delivered one more is refused
 pub one_stops : (d m : Replica) (done rest all : List Edit) (one : Edit) (e : LinkError) (left : List Edit) → m.world ≡ d.world
     → m.is_stale ≡ d.is_stale
     → all ≡ done ++ one ∷ rest → AllDelivered d done m.edits → DeliversOne m one (Err e) left → IsStopped d all e left
 one_stops d m done rest all one e left w s whole came (inl memory) =
-    inl (memory.0, (done, one, rest, whole, subst (AllDelivered d done) (sym memory.2) came, may_take d m one left s memory.2 memory.1))
+    inl (memory.0, one_lacks d m done rest all one left w s whole came memory.1 memory.2)
 one_stops d m done rest all one e left w s whole came (inr clash) =
     inr (
       clash.0,

@@ -19,7 +19,7 @@ use Rattle.zed_document.specs.declared.error.DocumentError.TheVariants as docume
 use Rattle.zed_document.specs.Counts.{NoCountFalls}
 use Rattle.zed_link.specs.declared.error.LinkError.{LinkError}
 use Rattle.zed_link.specs.declared.pulled.Pulled.{Pulled}
-use Rattle.zed_link.specs.Pieces.{HasRoomFor, IsPassed, IsStopped, TakesPiece}
+use Rattle.zed_link.specs.Pieces.{HasRoomFor, IsPassed, IsStopped, StopsInPiece, TakesPiece}
 use Rattle.zed_link.specs.Pull.{AllDelivered, StopsForMemory}
 use Rattle.zed_link.specs.Tally.{plus, states, tally}
 use Rattle.zed_link.proofs.Deliveries.{counted_more, delivered_more, refused_before, stops_more}
@@ -202,19 +202,36 @@ stopped_behind d m es fs e left w s all (inl memory) = inl (memory.0, stops_more
 stopped_behind d m es fs e left w s all (inr clash) =
     inr (clash.0, clash.1, delivered_more d m es fs (Err (document.Clash clash.0)) left w s all clash.2)
 
+-- the whole piece was read: what was taken of it, one more record, and what is left
+fed_whole : (d : Replica) (piece : List ℕ) (p q r u : Progress) (rest front after : List ℕ) (m : Replica) (fs more : List Edit) (counts : Pulled)
+    → (t : Taking d piece p q rest m counts) → rest ≡ front ++ after → Feeds front [] fs q r → Feeds after [] more r u
+    → Feeds piece [] ((t.es ++ fs) ++ more) p u
+fed_whole d piece p q r u rest front after m fs more counts t whole feeds drained =
+    let one = feeds_more t.done front t.es fs p q r t.feeds feeds in
+    let all = feeds_more (t.done ++ front) after (t.es ++ fs) more p r u one drained in
+    let is : piece ≡ (t.done ++ front) ++ after =
+    t.whole ∙ ap (λ (z : List ℕ). t.done ++ z) whole ∙ sym (append_assoc t.done front after) in
+    subst (λ z. Feeds z [] ((t.es ++ fs) ++ more) p u) (sym is) all
+
+-- memory ran out at a delivery, and what is left of the piece was read
+pub record_lacks : (d : Replica) (piece : List ℕ) (p q r u : Progress) (rest front after : List ℕ) (m : Replica) (more left : List Edit) (counts : Pulled)
+    → Taking d piece p q rest m counts → rest ≡ front ++ after → StopsInPiece m front q r left → Feeds after [] more r u
+    → StopsInPiece d piece p u left
+record_lacks d piece p q r u rest front after m more left counts t whole (fs, feeds, stops) drained = (
+  (t.es ++ fs) ++ more,
+  fed_whole d piece p q r u rest front after m fs more counts t whole feeds drained,
+  stops_before d (t.es ++ fs) more left (stops_more d m t.es fs left t.world t.sound t.all stops),
+)
+
 -- a record was refused, and what is left of the piece was read
 pub record_refused : (d : Replica) (piece : List ℕ) (p q r u : Progress) (rest front after : List ℕ) (m : Replica) (fs more left : List Edit) (counts : Pulled) (e : LinkError)
     → Taking d piece p q rest m counts → rest ≡ front ++ after → Feeds front [] fs q r → TakesPiece m fs r (Err e) left
     → Feeds after [] more r u → IfSome r.fault (λ f. (more ≡ []) × (u ≡ r))
     → (es : List Edit) × Feeds piece [] es p u × TakesPiece d es u (Err e) left
 record_refused d piece p q r u rest front after m fs more left counts e t whole feeds takes drained again =
-    let es : List Edit = (t.es ++ fs) ++ more in
-    let one = feeds_more t.done front t.es fs p q r t.feeds feeds in
-    let all = feeds_more (t.done ++ front) after (t.es ++ fs) more p r u one drained in
-    let is : piece ≡ (t.done ++ front) ++ after =
-    t.whole ∙ ap (λ (z : List ℕ). t.done ++ z) whole ∙ sym (append_assoc t.done front after) in (
+    let es : List Edit = (t.es ++ fs) ++ more in (
       es,
-      subst (λ z. Feeds z [] es p u) (sym is) all,
+      fed_whole d piece p q r u rest front after m fs more counts t whole feeds drained,
       elim takes [
         | inl stopped ↦ inl (stopped_before d (t.es ++ fs) more e left (stopped_behind d m t.es fs e left t.world t.sound t.all stopped))
         | inr fault ↦

@@ -14,14 +14,14 @@ use Rattle.zed_link.specs.declared.error.LinkError.TheVariants.{Memory, Magic, N
 use Rattle.zed_link.specs.declared.pulled.Pulled.{Pulled}
 use Rattle.zed_link.specs.Counting.{Counted}
 use Rattle.zed_link.specs.Ends.{Changed, FailedBehind, HandedAll, HandedOver, KeepsPace, LinkEnds}
-use Rattle.zed_link.specs.Pieces.{TakesPiece}
-use Rattle.zed_link.specs.Pull.{AllDelivered, FromReads, LeavesDocument, LeavesLink, Pull, least_read, most_reads, reads_made}
+use Rattle.zed_link.specs.Pieces.{StopsInPiece, TakesPiece}
+use Rattle.zed_link.specs.Pull.{AllDelivered, FromReads, LeavesDocument, LeavesLink, Pull, StopsAtDelivery, least_read, most_reads, reads_made}
 use Rattle.zed_link.specs.Refusals.{file_refusal}
 use Rattle.zed_link.specs.Tally.{plus, states, tally}
 use Rattle.zed_link.proofs.Deliveries.{counted_more, delivered_more, stops_more}
 use Rattle.zed_link.proofs.EndsLaws.{handed_all, handed_more, none_counted, none_handed, fails_behind, one_more}
 use Rattle.zed_link.proofs.Paces.{AtPace, at_pace_first, at_pace_more, from_no_reads, more_reads}
-use Rattle.zed_link.proofs.Readings.{asked_world, cut_short, fault_ends, few_edits}
+use Rattle.zed_link.proofs.Readings.{asked_world, cut_short, fault_ends, few_edits, reads_more}
 use Rattle.zed_link.proofs.Tallies.{tally_below}
 
 abbrev pub Answer : Type 0
@@ -83,7 +83,7 @@ goes_on d old mid now a b c n p q m l counts got sum piece read es going some fe
       found = going.found ++ es;
       asks = asked ∙ going.asks;
       calm = takes.0;
-      spells = subst (λ z. Reads (going.handed ++ piece) (going.found ++ z) q) (sym feeds.gained) (feeds.reads going.handed going.found going.spells);
+      spells = reads_more going.handed piece going.found es p q going.spells feeds;
       size = more_reads old mid now n going.handed piece going.pace going.size going.link over some few;
       pace = at_pace_more old mid now n going.handed piece going.pace going.link over some keeps;
       made = one_more n a b c going.made more;
@@ -103,8 +103,7 @@ pub room : (d : Replica) (old mid : Option LinkEnds) (a b n : ℕ) (p q : Progre
 room d old mid a b n p q m counts got piece es going within few feeds is =
     let before = tally_below d.edits going.found counts going.counted in
     let more = tally_below m.edits es got is in
-    let all = few_edits (going.handed ++ piece) (going.found ++ es) q
-    (subst (λ z. Reads (going.handed ++ piece) (going.found ++ z) q) (sym feeds.gained) (feeds.reads going.handed going.found going.spells)) in
+    let all = few_edits (going.handed ++ piece) (going.found ++ es) q (reads_more going.handed piece going.found es p q going.spells feeds) in
     let edits = length-append going.found es in
     let bytes = length-append going.handed piece in
     let size = going.size.1 in
@@ -180,6 +179,27 @@ ends_cut d old mid now a b c n p m counts f within going end more is =
       document = (cut.1, going.all);
     })
 
+-- memory ran out at a delivery in a piece
+pub piece_lacks : (d : Replica) (old mid now : Option LinkEnds) (a b n : ℕ) (p q : Progress) (m : Replica) (counts : Pulled) (piece read : List ℕ) (left : List Edit)
+    → Going d old mid a b n p m counts → piece ≡ read → Changed (HandedOver read) mid now → q.asked ≡ p.asked
+    → StopsInPiece m piece p q left
+    → StopsAtDelivery d old now left
+piece_lacks d old mid now a b n p q m counts piece read left going is handed asked (es, feeds, stops) = record {
+  handed = going.handed ++ piece;
+  edits = going.found ++ es;
+  reader = q;
+  asks = asked ∙ going.asks;
+  spells = reads_more going.handed piece going.found es p q going.spells feeds;
+  link = handed_more going.handed piece old mid now going.link (subst (λ z. Changed (HandedOver z) mid now) (sym is) handed);
+  stops = stops_more d m going.found es left going.world going.sound going.all stops;
+}
+
+-- the same of a document that was opened, and of what was closed
+pub stops_between : (a b c d : Replica) (old new : Option LinkEnds) → b ≡ a → d ≡ c → StopsAtDelivery b old new c.edits
+    → StopsAtDelivery a old new d.edits
+stops_between a b c d old new before after stops =
+    subst (λ (r : Replica). StopsAtDelivery r old new d.edits) before (subst (λ (r : Replica). StopsAtDelivery b old new r.edits) (sym after) stops)
+
 -- a piece was refused
 pub piece_refused : CutIsToldAtTheEnd
     → (d : Replica) (old mid now : Option LinkEnds) (a b c n : ℕ) (p q : Progress) (m : Replica) (counts : Pulled) (piece read : List ℕ) (es : List Edit) (e : LinkError) (left : List Edit)
@@ -208,7 +228,7 @@ piece_refused late d old mid now a b c n p q m counts piece read es e left withi
     up = omega arith
 
     spelled : Reads (going.handed ++ piece) (going.found ++ es) q
-    spelled = subst (λ z. Reads (going.handed ++ piece) (going.found ++ z) q) (sym feeds.gained) (feeds.reads going.handed going.found going.spells)
+    spelled = reads_more going.handed piece going.found es p q going.spells feeds
 
     pull : (e : LinkError) → n + 1 ≡ reads_made (refused e) (n + 1) → LeavesLink (Err e) (n + 1) (going.handed ++ piece) old now
         → LeavesDocument d (going.handed ++ piece) (going.found ++ es) q (Err e) left → Pull d old now a c (Err e) left

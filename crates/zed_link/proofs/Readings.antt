@@ -1,5 +1,5 @@
 -- What holds of a reader of the bytes that a link handed over.
-use Rattle.std.proofs.Common.{◌≡◌, ◌∙◌, ◌≤◌, ◌==◌, ℕ, false, not, List, [], ◌∷◌, Option, Some, None, Ok, Err, refl, sym, subst, arith, length, rules}
+use Rattle.std.proofs.Common.{◌≡◌, ◌∙◌, ◌++◌, ◌≤◌, ◌==◌, ℕ, false, not, List, [], ◌∷◌, Option, Some, None, Ok, Err, refl, sym, subst, arith, length, rules}
 use mathlib.Core.Logic.{inl, inr}
 use Rattle.std.specs.List.{flat_map}
 use Rattle.std.proofs.lemmas.List.{length-append}
@@ -68,6 +68,12 @@ cut_short p f calm is = go p.world p.rest (subst (λ o. Err f ≡ verdict_of (en
 -- a reader with a fault ends so
 pub fault_ends : (p : Progress) (f : EditFileError) → p.fault ≡ Some f → ending p ≡ Some f
 fault_ends p f is = rw is refl
+
+-- a piece is read behind the bytes before it
+pub reads_more : (bytes piece : List ℕ) (found es : List Edit) (p q : Progress) → Reads bytes found p → Feeds piece [] es p q
+    → Reads (bytes ++ piece) (found ++ es) q
+reads_more bytes piece found es p q reads feeds =
+    subst (λ z. Reads (bytes ++ piece) (found ++ z) q) (sym feeds.gained) (feeds.reads bytes found reads)
 
 -- the edits of a piece fit
 pub fed_edits_fit : (piece : List ℕ) (after : List Edit) (p q : Progress) → Feeds piece [] after p q → AllFit after

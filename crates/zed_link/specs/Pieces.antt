@@ -41,6 +41,10 @@ TakesPiece d es p (Err e) left =
     IsStopped d es e left
     ⊎ ((f : EditFileError) × (e ≡ file_refusal f) × (p.fault ≡ Some f) × AllDelivered d es left)
 
+-- memory ran out at a delivery: of the edits that a piece completes, those before one that may take memory were delivered
+abbrev pub StopsInPiece : Replica → List ℕ → Progress → Progress → List Edit → Type 0
+StopsInPiece d piece p q left = (es : List Edit) × Feeds piece [] es p q × StopsForMemory d es left
+
 -- the piece begins with the record of an edit that the document has: the reader is where it was behind it
 pub record IsPassed (front : List ℕ) (e : Edit) (piece rest : List ℕ) (p : Progress) (d : Replica) : Type 0 where
   pub whole : piece ≡ front ++ rest

@@ -57,6 +57,17 @@ StopsForMemory d es left =
     (front : List Edit) × (e : Edit) × (rest : List Edit) × (es ≡ front ++ e ∷ rest)
     × AllDelivered d front left × MayTakeMemoryFor (record d { edits = left }) e
 
+-- memory ran out at a delivery: of the edits of the document's world that are whole in the bytes that a link handed over, those before one
+-- that may take memory were delivered
+pub record StopsAtDelivery (d : Replica) (old new : Option LinkEnds) (left : List Edit) : Type 0 where
+  pub handed : List ℕ
+  pub edits : List Edit
+  pub reader : Progress
+  pub asks : reader.asked ≡ Some d.world
+  pub spells : Reads handed edits reader
+  pub link : Changed (HandedOver handed) old new
+  pub stops : StopsForMemory d edits left
+
 -- the file is refused where its reader is, after all edits before that
 abbrev pub Refuses : EditFileError → Replica → List Edit → Progress → List Edit → Type 0
 Refuses e d es p left = (ending p ≡ Some e) × AllDelivered d es left

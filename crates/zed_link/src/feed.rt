@@ -3,7 +3,7 @@ ghost use Rattle.std.specs.Prelude.{◌≡◌, ◌≢◌, ℕ, List, [], Some, N
 ghost use Rattle.zed_document.specs.Counts.{NoCountFalls};
 ghost use Rattle.zed_op.specs.declared.op.Edit.{Edit as TheEdit};
 ghost use Rattle.zed_editfile.specs.Stream.{AreRecords, Feeds, IsTextOf, Reads, ending, verdict_of};
-ghost use Rattle.zed_link.specs.Pieces.{HasRoomFor, TakesPiece};
+ghost use Rattle.zed_link.specs.Pieces.{HasRoomFor, StopsInPiece, TakesPiece};
 
 use crate::error::LinkError;
 use crate::pulled::Pulled;
@@ -62,6 +62,9 @@ impl Feed {
         ensures world { self.new.document.world ≡ self.old.document.world }
         ensures stale { (result ≢ Err LinkError.Memory)
             → self.new.document.is_stale ≡ self.old.document.is_stale }
+        ensures stale_only_when { self.new.document.is_stale ≢ self.old.document.is_stale
+            → StopsInPiece self.old.document piece.now self.old.progress self.new.progress
+            self.new.document.edits }
         ensures visits { (result ≢ Err LinkError.Memory)
             → NoCountFalls self.old.document.counts self.new.document.counts }
     {

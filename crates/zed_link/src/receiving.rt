@@ -2,6 +2,7 @@
 ghost use Rattle.std.specs.Prelude.{◌≡◌, ◌≢◌, ◌≤◌, ◌+◌, ◌↔◌, List, [], ◌∷◌, length, take, true, false, Some, None, Ok, Err, IfOk, IfErr, IfSome, ℕ, OnOk, OnErr, MatchResult};
 ghost use Rattle.zed_types.specs.declared.stamp.Stamp.{Stamp as TheStamp};
 ghost use Rattle.zed_document.specs.Counts.{NoCountFalls};
+ghost use Rattle.zed_document.specs.Delivery.{MayTakeMemoryFor};
 ghost use Rattle.zed_op.specs.declared.op.Edit.{Edit as TheEdit};
 ghost use Rattle.zed_op.specs.Fit.{Fits};
 ghost use Rattle.zed_op.specs.Set.{AllFit};
@@ -9,8 +10,8 @@ ghost use Rattle.zed_editfile.specs.Stream.{Feeds};
 ghost use Rattle.zed_host.specs.Counting.{Counts};
 ghost use Rattle.zed_link.specs.Counting.{Counted};
 ghost use Rattle.zed_link.specs.Ends.{Changed, FailedBehind, HandedAll, HandedOver, KeepsPace};
-ghost use Rattle.zed_link.specs.Pieces.{DeliversCounting, DeliversOne, HasRoomFor, IsPassed, TakesPiece};
-ghost use Rattle.zed_link.specs.Pull.{Pull, most_reads};
+ghost use Rattle.zed_link.specs.Pieces.{DeliversCounting, DeliversOne, HasRoomFor, IsPassed, StopsInPiece, TakesPiece};
+ghost use Rattle.zed_link.specs.Pull.{Pull, StopsAtDelivery, StopsForMemory, most_reads};
 ghost use Rattle.zed_link.specs.Refusals.{is_fault};
 ghost use Rattle.zed_link.specs.Tally.{state_in};
 
@@ -40,6 +41,8 @@ fn deliver_one(intake: &mut Intake, edit: Edit) -> Result<State, LinkError>
     ensures world { intake.new.world ≡ intake.old.world }
     ensures stale { (result ≢ Err LinkError.Memory)
         → intake.new.is_stale ≡ intake.old.is_stale }
+    ensures stale_only_when { intake.new.is_stale ≢ intake.old.is_stale
+        → MayTakeMemoryFor intake.old edit × (intake.new.edits ≡ intake.old.edits) }
     ensures visits { (result ≢ Err LinkError.Memory)
         → NoCountFalls intake.old.counts intake.new.counts }
 {
@@ -67,6 +70,8 @@ fn deliver_each(intake: &mut Intake, edits: Vec<Edit>) -> Result<Pulled, LinkErr
     ensures world { intake.new.world ≡ intake.old.world }
     ensures stale { (result ≢ Err LinkError.Memory)
         → intake.new.is_stale ≡ intake.old.is_stale }
+    ensures stale_only_when { intake.new.is_stale ≢ intake.old.is_stale
+        → StopsForMemory intake.old edits.items intake.new.edits }
     ensures visits { (result ≢ Err LinkError.Memory)
         → NoCountFalls intake.old.counts intake.new.counts }
 {
@@ -94,6 +99,8 @@ fn take_records(
     ensures world { intake.new.world ≡ intake.old.world }
     ensures stale { (result ≢ Err LinkError.Memory)
         → intake.new.is_stale ≡ intake.old.is_stale }
+    ensures stale_only_when { intake.new.is_stale ≢ intake.old.is_stale
+        → StopsInPiece intake.old piece.now reader.old reader.new intake.new.edits }
     ensures visits { (result ≢ Err LinkError.Memory)
         → NoCountFalls intake.old.counts intake.new.counts }
 {
@@ -144,6 +151,8 @@ pub(crate) fn take_piece(
     ensures world { intake.new.world ≡ intake.old.world }
     ensures stale { (result ≢ Err LinkError.Memory)
         → intake.new.is_stale ≡ intake.old.is_stale }
+    ensures stale_only_when { intake.new.is_stale ≢ intake.old.is_stale
+        → StopsInPiece intake.old piece.now reader.old reader.new intake.new.edits }
     ensures visits { (result ≢ Err LinkError.Memory)
         → NoCountFalls intake.old.counts intake.new.counts }
 {
@@ -207,6 +216,8 @@ pub fn receive_into(
     ensures world { intake.new.world ≡ intake.old.world }
     ensures stale { (result ≢ Err LinkError.Memory)
         → intake.new.is_stale ≡ intake.old.is_stale }
+    ensures stale_only_when { intake.new.is_stale ≢ intake.old.is_stale
+        → StopsAtDelivery intake.old (ends link.old) (ends link.new) intake.new.edits }
     ensures visits { (result ≢ Err LinkError.Memory)
         → NoCountFalls intake.old.counts intake.new.counts }
     ensures reads { reads link.new ≤ reads link.old + most_reads }
@@ -237,8 +248,9 @@ pub fn receive_into(
 /// # Errors
 /// Stale comes first, before any read. After that the first refusal ends it, and nothing more is
 /// read: LinkFault if a read fails; the refusals of an edit file; Clash; Memory, after which the
-/// document may be stale; TooManyTurns after 1,048,576 reads that weren't the end. What was
-/// delivered before stays. Except after Memory, no count of looks is lower than before.
+/// document may be stale if a delivery wanted it, but not if the reader alone did; TooManyTurns
+/// after 1,048,576 reads that weren't the end. What was delivered before stays. Except after
+/// Memory, no count of looks is lower than before.
 pub fn receive(
     alloc: Global,
     link: &mut dyn Link,
@@ -253,6 +265,8 @@ pub fn receive(
     ensures world { document.new.world ≡ document.old.world }
     ensures stale { (result ≢ Err LinkError.Memory)
         → document.new.is_stale ≡ document.old.is_stale }
+    ensures stale_only_when { document.new.is_stale ≢ document.old.is_stale
+        → StopsAtDelivery document.old (ends link.old) (ends link.new) document.new.edits }
     ensures visits { (result ≢ Err LinkError.Memory)
         → NoCountFalls document.old.counts document.new.counts }
     ensures reads { reads link.new ≤ reads link.old + most_reads }

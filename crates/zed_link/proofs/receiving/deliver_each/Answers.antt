@@ -3,7 +3,7 @@ use Rattle.std.proofs.lemmas.List.{length-append}
 use Rattle.std.proofs.lemmas.Result.{err_from_is_err_and}
 use Rattle.zed_link.specs.declared.error.LinkError.TheVariants.{Memory}
 use Rattle.zed_link.specs.Tally.{tally}
-use Rattle.zed_link.proofs.Deliveries.{counted_more, delivered_more, one_behind, one_stops}
+use Rattle.zed_link.proofs.Deliveries.{counted_more, delivered_more, one_behind, one_lacks, one_stops}
 use Rattle.zed_document.proofs.Fronts.{falls_more}
 use Rattle.zed_link.proofs.Outcomes.{refused}
 use Rattle.zed_link.proofs.Tallies.{tally_below}
@@ -24,6 +24,13 @@ returns-in_err-state-clause-visits c = λ other.
     falls_more _ _ _ c.loop-edit.invariant.falls (c.in_err-state.ensures.visits (λ bad.
     let lack : c.in_err-state.field-0.0 ≡ Memory = cc in
     other (p.1 ∙ ap refused (same ∙ lack))))
+
+pub returns-in_err-state-clause-stale_only_when : goal.returns-in_err-state-clause-stale_only_when
+returns-in_err-state-clause-stale_only_when c = λ other.
+    let old = c.loop-edit.invariant in
+    let lack = c.in_err-state.ensures.stale_only_when (λ same. other (same ∙ old.sound)) in
+    one_lacks c.args.intake.now c.loop-edit.intake old.done c.next.new.self.rest.items c.args.edits.items c.in-Some.edit c.deliver_one.new.intake.edits
+    old.world old.sound (old.whole ∙ ap (λ z. old.done ++ z) c.in-Some.ensures.steps.0) old.all lack.0 lack.1
 
 pub count-requires-clause-taken : goal.count-requires-clause-taken
 count-requires-clause-taken c =

@@ -5,7 +5,7 @@ use Rattle.zed_link.specs.Refusals.{file_refusal}
 use Rattle.zed_link.specs.Pull.{most_reads}
 use Rattle.zed_link.proofs.EndsLaws.{one_within}
 use Rattle.zed_document.proofs.Fronts.{falls_more}
-use Rattle.zed_link.proofs.Outcomes.{ends_cut, ends_well, goes_on, piece_refused, read_failed, refused, room, turns_over}
+use Rattle.zed_link.proofs.Outcomes.{ends_cut, ends_well, goes_on, piece_lacks, piece_refused, read_failed, refused, room, turns_over}
 use Rattle.zed_link.proofs.Paces.{piece_keeps_pace}
 use Rattle.zed_link.proofs.receiving.receive_into.Goals as goal
 
@@ -108,6 +108,13 @@ returns-in_err-take_piece-clause-visits g c = λ other.
     falls_more _ _ _ c.loop-reads.invariant.falls (c.in_err-take_piece.ensures.visits (λ bad.
     let lack : c.in_err-take_piece.field-0.0 ≡ Memory = cc in
     other (p.1 ∙ ap refused (same ∙ lack))))
+
+pub returns-in_err-take_piece-clause-stale_only_when : goal.returns-in_err-take_piece-clause-stale_only_when
+returns-in_err-take_piece-clause-stale_only_when g c = λ other.
+    let going = c.loop-reads.invariant.going in
+    let lack = c.in_err-take_piece.ensures.stale_only_when (λ same. other (same ∙ going.sound)) in
+    piece_lacks c.args.intake.now _ _ _ _ _ _ c.loop-reads.reader c.take_piece.new.reader c.loop-reads.intake c.loop-reads.pulled c.split_at.result.0.now _ _
+    going c.split_at.ensures.front c.in_ok-count.ensures.ok c.in_err-take_piece.ensures.asked lack
 
 pub returns-clause-pull : goal.returns-clause-pull
 returns-clause-pull g c =

@@ -1,6 +1,6 @@
-use Rattle.std.proofs.Common.{arith, refl, sym, subst}
+use Rattle.std.proofs.Common.{◌∙◌, arith, refl, sym, subst}
 use Rattle.zed_document.specs.Replica.{Replica}
-use Rattle.zed_link.proofs.Feeding.{Taking, nothing_taken, one_passed, more_taken, record_refused, room, room_one}
+use Rattle.zed_link.proofs.Feeding.{Taking, nothing_taken, one_passed, more_taken, record_lacks, record_refused, room, room_one}
 use Rattle.zed_link.proofs.receiving.take_piece.Goals as goal
 
 pub loop-rest-init : goal.loop-rest-init
@@ -67,6 +67,15 @@ returns-in-Err-clause-result c =
     let k = c.in-Err.ensures.result in
     let d = c.drain.ensures.feeds in
     record_refused _ _ _ _ _ _ _ _ _ _ k.0 d.0 _ _ c.in-Err.error t c.first.ensures.whole k.1 k.2 d.1 d.2
+
+pub returns-in-Err-clause-stale_only_when : goal.returns-in-Err-clause-stale_only_when
+returns-in-Err-clause-stale_only_when c = λ other.
+    let P : Replica → Type 0 =
+    λ m. Taking c.args.intake.now c.args.piece.now c.args.reader.now c.loop-rest.reader c.loop-rest.rest.now m c.loop-rest.pulled in
+    let t = subst P (sym c.pass_known.ensures.kept) c.loop-rest.invariant in
+    let lack = c.in-Err.ensures.stale_only_when (λ same. other (same ∙ t.sound)) in
+    let d = c.drain.ensures.feeds in
+    record_lacks _ _ _ _ _ _ _ _ _ _ d.0 _ _ t c.first.ensures.whole lack d.1
 
 pub loop-rest-preserved : goal.loop-rest-preserved
 loop-rest-preserved c =
