@@ -3,7 +3,7 @@ use Rattle.std.specs.Prelude.{◌≡◌, ℕ, List, Option, None, Result, Err, s
 use Rattle.zed_op.specs.declared.op.Edit.{Edit}
 use Rattle.zed_document.specs.Replica.{Replica}
 use Rattle.zed_link.specs.Ends.{LinkEnds}
-use Rattle.zed_link.specs.Pull.{Pull}
+use Rattle.zed_link.specs.Pull.{Pull, StopsAtDelivery}
 use Rattle.zed_link.specs.declared.error.LinkError.{LinkError}
 use Rattle.zed_link.specs.declared.pulled.Pulled.{Pulled}
 use Rattle.zed_link.specs.declared.writes.Writes.{Writes}
@@ -34,6 +34,10 @@ seen_at i links = slice_index_or links i (seen None 0)
 -- a pull over a link, by what was seen of it before and is seen then
 abbrev pub PullsOver : Replica → LinkSeen → LinkSeen → Result Pulled LinkError → List Edit → Type 0
 PullsOver d old new result left = Pull d old.ends new.ends old.reads new.reads result left
+
+-- memory ran out at a delivery, in a pull over a link that had these ends
+abbrev pub StopsOverLink : Replica → Option LinkEnds → List Edit → Type 0
+StopsOverLink d ends left = (gone : Option LinkEnds) × StopsAtDelivery d ends gone left
 
 -- a pull is refused, for what its link or the bytes from it came to; and these are the document's edits then
 abbrev pub RefusesPull : Replica → LinkSeen → SessionError → List Edit → Type 0

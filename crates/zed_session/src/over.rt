@@ -4,6 +4,7 @@ ghost use Rattle.zed_document.specs.Counts.{NoCountFalls};
 ghost use Rattle.zed_host.specs.Counting.{Counts};
 ghost use Rattle.zed_link.specs.Counting.{Faulted};
 ghost use Rattle.zed_link.specs.Ends.{Changed, Took, TookFront};
+ghost use Rattle.zed_link.specs.Pull.{StopsAtDelivery};
 ghost use Rattle.zed_link.specs.Refusals.{is_fault};
 ghost use Rattle.zed_session.specs.Gone.{FailedToReceive, FailedToSend, told, told_at};
 ghost use Rattle.zed_link.specs.Writing.{WritesAtMost};
@@ -43,6 +44,8 @@ pub(crate) fn receive_over(
     ensures world { document.new.world ≡ document.old.world }
     ensures stale { (result ≢ Err LinkError.Memory)
         → document.new.is_stale ≡ document.old.is_stale }
+    ensures stale_only_when { document.new.is_stale ≢ document.old.is_stale
+        → StopsAtDelivery document.old (ends link.old) (ends link.new) document.new.edits }
     ensures visits { (result ≢ Err LinkError.Memory)
         → NoCountFalls document.old.counts document.new.counts }
     ensures writes { writes link.new ≡ writes link.old }
@@ -136,6 +139,10 @@ pub(crate) fn receive_at(
     ensures world { document.new.world ≡ document.old.world }
     ensures stale { IfErr result (λ gone. gone.error ≢ LinkError.Memory
         → document.new.is_stale ≡ document.old.is_stale) }
+    ensures stale_only_when { IfErr result (λ gone. document.new.is_stale ≢ document.old.is_stale
+        → StopsAtDelivery document.old
+        (ends_at i (map (λ link. ends link) links.old.items)) (ends gone.link)
+        document.new.edits) }
     ensures sound { OnOk result (document.new.is_stale ≡ document.old.is_stale) }
     ensures visits { IfErr result (λ gone. gone.error ≢ LinkError.Memory
         → NoCountFalls document.old.counts document.new.counts) }

@@ -10,7 +10,7 @@ ghost use Rattle.zed_host.specs.Counting.{Counts};
 ghost use Rattle.zed_session.specs.Devices.{AsksOnce};
 ghost use Rattle.zed_session.specs.Play.{PlaysKey, ShowsKey, ShowsStep, goes_on};
 ghost use Rattle.zed_session.specs.Refusals.{ShownAfter, ShowsOnce, is_key_fault, is_screen_fault};
-ghost use Rattle.zed_session.specs.Links.{PullsOver, RefusesPull, ends_at, seen, seen_at, writes_at};
+ghost use Rattle.zed_session.specs.Links.{PullsOver, RefusesPull, StopsOverLink, ends_at, seen, seen_at, writes_at};
 
 use crate::error::SessionError;
 use crate::file::file_of;
@@ -227,9 +227,9 @@ impl Session {
     /// and delivers each of its edits as soon as it is whole. NoLink if there is no link at this
     /// place; then Stale, before any read. After that the first refusal ends it: LinkFault if a
     /// read fails; the refusals of an edit file; Clash; Memory, after which the document may be
-    /// stale; TooManyTurns after 1,048,576 reads that weren't the end. Then the link is let go, and
-    /// what was delivered before stays. Except after Memory, no count of looks is lower than
-    /// before.
+    /// stale if a delivery wanted it, but not if the reader alone did; TooManyTurns after 1,048,576
+    /// reads that weren't the end. Then the link is let go, and what was delivered before stays.
+    /// Except after Memory, no count of looks is lower than before.
     #[tactic(auto, using(crate::proofs::Places::others_at, crate::proofs::Places::shown_same))]
     pub fn pull(&mut self, i: usize) -> Result<Pulled, SessionError>
         ensures no_link { (result ≡ Err SessionError.NoLink) ↔ (length self.old.links.items ≤ i) }
@@ -261,6 +261,9 @@ impl Session {
         ensures world { self.new.document.world ≡ self.old.document.world }
         ensures sound { (result ≢ Err SessionError.Memory)
             → self.new.document.is_stale ≡ self.old.document.is_stale }
+        ensures stale_only_when { self.new.document.is_stale ≢ self.old.document.is_stale
+            → StopsOverLink self.old.document
+            (ends_at i (map (λ link. ends link) self.old.links.items)) self.new.document.edits }
         ensures visits { (result ≢ Err SessionError.Memory)
             → NoCountFalls self.old.document.counts self.new.document.counts }
         ensures stage { self.new.stage ≡ self.old.stage }

@@ -1,5 +1,6 @@
 use Rattle.std.proofs.Common.{◌≡◌, ◌∙◌, Ok, Err, None, ap}
 use Rattle.zed_link.specs.declared.error.LinkError.TheVariants.{Memory}
+use Rattle.zed_link.specs.Pull.{StopsAtDelivery}
 use Rattle.zed_session.specs.Gone.{FailedToReceive, told}
 use Rattle.zed_session.specs.Links.{PullsOver, seen}
 use Rattle.zed_session.proofs.Places.{gone_at, removed_at, replaced_at}
@@ -32,6 +33,11 @@ returns-in-Err-clause-never_stale g c = λ same. let stale = c.in-Err.ensures.er
 
 pub returns-in-Err-clause-stale : goal.returns-in-Err-clause-stale
 returns-in-Err-clause-stale g c = λ ample. c.in-Err.ensures.stale (λ lack. let is : c.in-Err.error ≡ Memory = cc in ample is)
+
+pub returns-in-Err-clause-stale_only_when : goal.returns-in-Err-clause-stale_only_when
+returns-in-Err-clause-stale_only_when g c = λ other.
+    gone_at _ (λ a b. StopsAtDelivery c.args.document.now a b c.receive_over.new.document.edits) _ _ _ _ _ None c.requires.within c.index_mut.ensures.value
+    c.remove-link.ensures.value (c.in-Err.ensures.stale_only_when other)
 
 pub returns-in-Err-clause-visits : goal.returns-in-Err-clause-visits
 returns-in-Err-clause-visits g c = λ ample. c.in-Err.ensures.visits (λ lack. let is : c.in-Err.error ≡ Memory = cc in ample is)

@@ -31,6 +31,7 @@ returns-in-Err g c =
       dropped = λ not_link not_stale. c.in-Err.ensures.taken_out;
       world = c.in-Err.ensures.world;
       sound = λ ample. c.in-Err.ensures.stale (λ lack. ample (ap Err (told ∙ ap link_refusal lack)));
+      stale_only_when = λ other. (_, c.in-Err.ensures.stale_only_when other);
       visits = λ ample. c.in-Err.ensures.visits (λ lack. ample (ap Err (told ∙ ap link_refusal lack)));
       stage = refl;
     }
