@@ -1,0 +1,4 @@
+pub mod Effects
+pub mod Ends
+pub mod Outputs
+pub mod Reading
