@@ -11,6 +11,8 @@ mod code;
 #[cfg(test)]
 mod documents;
 #[cfg(test)]
+mod driving;
+#[cfg(test)]
 mod edits;
 #[cfg(test)]
 mod growths;
