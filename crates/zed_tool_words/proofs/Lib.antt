@@ -1,13 +1,3 @@
 pub mod Numbers
 pub mod Parsing
-pub mod CommandWords
-pub mod OpenWords
-pub mod TakeWords
-pub mod LogWords
-pub mod ListWords
-pub mod ShowWords
-pub mod PlayWords
-pub mod LintWords
-pub mod SetWords
-pub mod ProgramWords
 pub mod HelpWords

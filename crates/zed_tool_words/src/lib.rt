@@ -10,10 +10,6 @@ mod release;
 mod words;
 
 pub use asked::{Command, Forcing, Form, Going, Length, Listing, Strictness};
-pub use laws::{
-    help_words, plain_words_lint, plain_words_list, plain_words_log, plain_words_open,
-    plain_words_play, plain_words_program, plain_words_set, plain_words_show, plain_words_take,
-    version_words,
-};
+pub use laws::{help_words, version_words};
 pub use release::version;
 pub use words::{ParseError, parse};
