@@ -1,44 +1,35 @@
 -- Lines of edits that set nothing.
-use Rattle.std.proofs.Common.{◌≡◌, ℕ, suc, ◌-◌, length, codes, Option, Some, None, Result, Err, refl, ap, subst, arith}
+use Rattle.std.proofs.Common.{◌≡◌, codes, Option, Some, None, refl, subst}
 use Rattle.zed_op.specs.declared.op.Op.{Op}
 use Rattle.zed_op.specs.declared.op.Op.TheVariants.{Genesis, SetHeader, BoardAdd, BoardRemove, SetBoard, SetCells, StatAdd, StatRemove, SetStat, TextAdd, TextInsert, TextDelete}
 use Rattle.zed_log.specs.Line.{op_text}
-use Rattle.zed_set_words.specs.declared.bad.BadWord.{BadWord}
-use Rattle.zed_set_words.specs.declared.bad.Expected.TheVariants.{Thing}
-use Rattle.zed_set_words.specs.declared.wishes.Wish.{Wish}
-use Rattle.zed_set_words.specs.Rows.{wish_of}
+use Rattle.zed_set_words.specs.Rows.{reading, wish_of}
 use Rattle.zed_set_words.specs.Values.{Word}
 use Rattle.zed_set_laws.specs.Printed.{BeginsWith, IsWrong, OtherIsNotRead}
 
-abbrev told : ℕ → Result Wish BadWord
-told n = Err (record { at = n; expected = Thing })
-
-first : (n : ℕ) → told (suc n - suc n) ≡ told 0
-first n = let none : suc n - suc n ≡ 0 = omega arith in ap told none
-
 genesis_wrong : IsWrong (codes "genesis")
-unfolding wish_of
-genesis_wrong others = first (length others)
+unfolding wish_of reading
+genesis_wrong others = refl
 
 add_wrong : IsWrong (codes "add")
-unfolding wish_of
-add_wrong others = first (length others)
+unfolding wish_of reading
+add_wrong others = refl
 
 remove_wrong : IsWrong (codes "remove")
-unfolding wish_of
-remove_wrong others = first (length others)
+unfolding wish_of reading
+remove_wrong others = refl
 
 cells_wrong : IsWrong (codes "cells")
-unfolding wish_of
-cells_wrong others = first (length others)
+unfolding wish_of reading
+cells_wrong others = refl
 
 insert_wrong : IsWrong (codes "insert")
-unfolding wish_of
-insert_wrong others = first (length others)
+unfolding wish_of reading
+insert_wrong others = refl
 
 delete_wrong : IsWrong (codes "delete")
-unfolding wish_of
-delete_wrong others = first (length others)
+unfolding wish_of reading
+delete_wrong others = refl
 
 abbrev Holds : Op → Word → Type 0
 Holds op word = BeginsWith word (op_text op) × IsWrong word

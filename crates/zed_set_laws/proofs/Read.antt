@@ -1,18 +1,14 @@
 -- The words of a setting are read as it.
-use Rattle.std.proofs.Common.{◌≡◌, ◌∙◌, ℕ, ◌+◌, Bool, true, false, ◌∷◌, map, codes, Option, Some, None, Ok, refl, sym, ap, arith}
+use Rattle.std.proofs.Common.{◌≡◌, ◌∙◌, Bool, true, false, ◌∷◌, map, codes, Option, Some, None, Ok, refl, sym, ap, arith}
 use Rattle.std.specs.Prelude.{IfSome, option_map}
 use Rattle.std.specs.Str.{bytes_eq}
-use Rattle.std.specs.Char.{is_ascii_digit}
-use Rattle.std.specs.List.{list_all}
 use Rattle.zed_set_words.proofs.Tests.{eq_of}
 use Rattle.zed_types.specs.declared.names.Name.{Name as TheName}
 use Rattle.zed_types.specs.declared.names.BoardId.{BoardId}
 use Rattle.zed_types.specs.declared.names.StatId.{StatId}
 use Rattle.zed_types.specs.declared.names.TextId.{TextId}
-use Rattle.zed_types.specs.Header.{flag_index}
 use Rattle.zed_types.specs.declared.header.HeaderNumber.TheVariants.{Ammo, Gems, Health, Torches, TorchTicks, EnergizerTicks, Score, TimePassed, Hundredths}
 use Rattle.zed_types.specs.declared.header.KeyColour.TheVariants.{Blue, Green, Cyan, Red, Purple, Yellow, White}
-use Rattle.zed_types.specs.declared.header.FlagSlot.{FlagSlot}
 use Rattle.zed_types.specs.declared.header.FlagSlot.TheVariants.{First, Second, Third, Fourth, Fifth, Sixth, Seventh, Eighth, Ninth, Tenth}
 use Rattle.zed_types.specs.declared.header.HeaderSetting.{HeaderSetting}
 use Rattle.zed_types.specs.declared.header.HeaderSetting.TheVariants as header
@@ -38,25 +34,12 @@ use Rattle.zed_set_words.specs.declared.wishes.StatPlace.{StatPlace}
 use Rattle.zed_set_words.specs.declared.wishes.StatPlace.TheVariants as stat_place
 use Rattle.zed_set_words.specs.declared.wishes.Wish.TheVariants as wish
 use Rattle.zed_set_laws.specs.Printed.{FieldIsRead, HasBytes, HeaderIsRead, Plain, PropertyIsRead, TextHasBytes, board_words, field_wish, header_wish, header_words, line_of, property_wish, stat_words, word_of}
-use Rattle.zed_set_words.specs.Rows.{board as board_read, board_byte, board_flag, board_name as board_title, board_rank, board_thing, current_board, exit, field_of, follower, key, leader, max_shots, message, number_register_of, other_field_of, other_register_of, p3, p3_board, place_field_of, property_of, register_of, saved, start, start_board, stat as stat_read, stat_byte, stat_number, stat_text, stat_thing, stat_wish_at, step, text_of, time_limit, under, under_colour, under_element, wish_of, world as world_read, world_and_name, world_flag, world_name, world_number, world_number_behind, world_thing}
-use Rattle.zed_set_words.specs.Values.{Word, board_of, name_of, other_of, slot_of, unless_none}
-use Rattle.zed_set_laws.proofs.Back.{colour_back, integer_back, name_back, number_back, number_digits, string_back}
+use Rattle.zed_set_words.specs.Rows.{reading, wish_of}
+use Rattle.zed_set_words.specs.Values.{board_of, byte_of, name_of, number_of, other_of, text_of, unless_none}
+use Rattle.zed_set_laws.proofs.Back.{colour_back, integer_back, name_back, number_back, string_back}
 use Rattle.zed_set_laws.proofs.ElementBack.{element_back}
 
 -- ---- how lines have them
-
-slot_word : (k : FlagSlot) → slot_of (number (1 + flag_index k)) ≡ Some k
-unfolding number
-slot_word First = refl
-slot_word Second = refl
-slot_word Third = refl
-slot_word Fourth = refl
-slot_word Fifth = refl
-slot_word Sixth = refl
-slot_word Seventh = refl
-slot_word Eighth = refl
-slot_word Ninth = refl
-slot_word Tenth = refl
 
 header_line : (s : HeaderSetting) → op_text (SetHeader s) ≡ line_of (Plain (codes "header") ∷ header_words s)
 header_line (header.Number Ammo n) = refl
@@ -118,7 +101,7 @@ stat_line k (stat.Text t) = refl
 
 header_read : (s : HeaderSetting) → IsHeaderSetting s → HasBytes s → is_header_in_range s ≡ true
     → wish_of (map word_of (Plain (codes "header") ∷ header_words s)) ≡ Ok (wish.World (header_wish s))
-unfolding wish_of world_read world_thing register_of number_register_of other_register_of world_number world_number_behind key world_flag saved start_board current_board world_name world_and_name
+unfolding wish_of reading number
 header_read (header.Number Ammo n) fits bytes short = rw (integer_back n fits) refl
 header_read (header.Number Gems n) fits bytes short = rw (integer_back n fits) refl
 header_read (header.Number Health n) fits bytes short = rw (integer_back n fits) refl
@@ -146,7 +129,16 @@ header_read (header.Saved true) fits bytes short = refl
 header_read (header.Saved false) fits bytes short = refl
 header_read (header.CurrentBoard b) fits bytes short = rw (name_back b.name fits) refl
 header_read (header.WorldName s) fits bytes short = rw (string_back 20 s bytes short) refl
-header_read (header.Flag k s) fits bytes short = rw (slot_word k, string_back 20 s bytes short) refl
+header_read (header.Flag First s) fits bytes short = rw (string_back 20 s bytes short) refl
+header_read (header.Flag Second s) fits bytes short = rw (string_back 20 s bytes short) refl
+header_read (header.Flag Third s) fits bytes short = rw (string_back 20 s bytes short) refl
+header_read (header.Flag Fourth s) fits bytes short = rw (string_back 20 s bytes short) refl
+header_read (header.Flag Fifth s) fits bytes short = rw (string_back 20 s bytes short) refl
+header_read (header.Flag Sixth s) fits bytes short = rw (string_back 20 s bytes short) refl
+header_read (header.Flag Seventh s) fits bytes short = rw (string_back 20 s bytes short) refl
+header_read (header.Flag Eighth s) fits bytes short = rw (string_back 20 s bytes short) refl
+header_read (header.Flag Ninth s) fits bytes short = rw (string_back 20 s bytes short) refl
+header_read (header.Flag Tenth s) fits bytes short = rw (string_back 20 s bytes short) refl
 
 -- ---- properties of a board
 
@@ -154,58 +146,41 @@ no_name : {n : TheName} → name_of (codes "none") ≡ Some n → ⊥
 unfolding name_of
 no_name {n = n} h = let no : None ≡ Some n = h in cc
 
--- digits aren't `board`
-not_board : (n : ℕ) → bytes_eq (number n) (codes "board") ≡ false
-not_board n = go (bytes_eq (number n) (codes "board")) refl
-  where
-    go : (b : Bool) → bytes_eq (number n) (codes "board") ≡ b → b ≡ false
-    go false other = refl
-    go true same = absurd (
-        let is : number n ≡ codes "board" = eq_of (number n) (codes "board") same in
-        let no : false ≡ true = ap (list_all is_ascii_digit) (sym is) ∙ number_digits n in
-        cc)
-
 -- a name isn't `none` (110 at its head)
-not_none : (n : TheName) → IsName n → (A : Type 0) (read : Word → Option A) (x : A) → read (name n) ≡ Some x
-    → unless_none read (name n) ≡ Some (Some x)
-not_none n fits A read x is = go (bytes_eq (name n) (codes "none")) refl
+not_none : (n : TheName) → IsName n → (A : Type 0) (x : A) → unless_none (name n) (Some x) ≡ Some (Some x)
+not_none n fits A x = go (bytes_eq (name n) (codes "none")) refl
   where
-    go : (b : Bool) → bytes_eq (name n) (codes "none") ≡ b → unless_none read (name n) ≡ Some (Some x)
+    go : (b : Bool) → bytes_eq (name n) (codes "none") ≡ b → unless_none (name n) (Some x) ≡ Some (Some x)
     go true same = absurd (let named : name n ≡ codes "none" = eq_of (name n) (codes "none") same in let read_none : name_of (codes "none") ≡ Some n = ap name_of (sym named) ∙ name_back n fits in no_name read_none)
-    go false other = rw (other, is) refl
+    go false other = rw other refl
 
 board_found : (b : BoardId) → IsName b.name → board_of (board_name b) ≡ Some (board_place.Named b)
 board_found b fits = rw (name_back b.name fits) refl
 
 exit_found : (b : Option BoardId) → IfSome b (λ x. IsName x.name)
-    → unless_none board_of (optional board_name b) ≡ Some (option_map board_place.Named b)
+    → unless_none (optional board_name b) (board_of (optional board_name b)) ≡ Some (option_map board_place.Named b)
 exit_found None fits = refl
-exit_found (Some b) fits = not_none b.name fits BoardPlace board_of (board_place.Named b) (board_found b fits)
+exit_found (Some b) fits = rw (board_found b fits) (not_none b.name fits BoardPlace (board_place.Named b))
 
-property_read : (s : BoardSetting) → IsBoardSetting s → TextHasBytes s → is_property_in_range s ≡ true
-    → board_read (map word_of (board_words s)) ≡ Ok (property_wish s)
-unfolding board_read property_of board_byte board_flag board_title message max_shots time_limit board_rank exit start
-property_read (board.Byte MaxShots n) fits bytes short = rw (number_back 255 n (omega arith)) refl
-property_read (board.Byte StartX n) fits bytes short = rw (number_back 255 n (omega arith)) refl
-property_read (board.Byte StartY n) fits bytes short = rw (number_back 255 n (omega arith)) refl
-property_read (board.Flag Dark true) fits bytes short = refl
-property_read (board.Flag Dark false) fits bytes short = refl
-property_read (board.Flag ReEnter true) fits bytes short = refl
-property_read (board.Flag ReEnter false) fits bytes short = refl
-property_read (board.TimeLimit n) fits bytes short = rw (integer_back n fits) refl
-property_read (board.Exit North b) fits bytes short = rw (exit_found b fits) refl
-property_read (board.Exit South b) fits bytes short = rw (exit_found b fits) refl
-property_read (board.Exit West b) fits bytes short = rw (exit_found b fits) refl
-property_read (board.Exit East b) fits bytes short = rw (exit_found b fits) refl
-property_read (board.Text Name s) fits bytes short = rw (string_back 50 s bytes short) refl
-property_read (board.Text Message s) fits bytes short = rw (string_back 58 s bytes short) refl
-property_read (board.Rank n) fits bytes short = rw (number_back 65535 n (omega arith)) refl
-
-board_wish_read : (b : BoardId) (s : BoardSetting) → IsName b.name → IsBoardSetting s → TextHasBytes s → is_property_in_range s ≡ true
+property_read : (b : BoardId) (s : BoardSetting) → IsName b.name → IsBoardSetting s → TextHasBytes s → is_property_in_range s ≡ true
     → wish_of (map word_of (Plain (codes "board") ∷ Plain (board_name b) ∷ board_words s))
     ≡ Ok (wish.Board (board_place.Named b) (property_wish s))
-unfolding wish_of board_thing
-board_wish_read b s named fits bytes short = rw (name_back b.name named, property_read s fits bytes short) refl
+unfolding wish_of reading
+property_read b (board.Byte MaxShots n) named fits bytes short = rw (name_back b.name named, number_back 255 n (omega arith)) refl
+property_read b (board.Byte StartX n) named fits bytes short = rw (name_back b.name named, number_back 255 n (omega arith)) refl
+property_read b (board.Byte StartY n) named fits bytes short = rw (name_back b.name named, number_back 255 n (omega arith)) refl
+property_read b (board.Flag Dark true) named fits bytes short = rw (name_back b.name named) refl
+property_read b (board.Flag Dark false) named fits bytes short = rw (name_back b.name named) refl
+property_read b (board.Flag ReEnter true) named fits bytes short = rw (name_back b.name named) refl
+property_read b (board.Flag ReEnter false) named fits bytes short = rw (name_back b.name named) refl
+property_read b (board.TimeLimit n) named fits bytes short = rw (name_back b.name named, integer_back n fits) refl
+property_read b (board.Exit North to) named fits bytes short = rw (name_back b.name named, exit_found to fits) refl
+property_read b (board.Exit South to) named fits bytes short = rw (name_back b.name named, exit_found to fits) refl
+property_read b (board.Exit West to) named fits bytes short = rw (name_back b.name named, exit_found to fits) refl
+property_read b (board.Exit East to) named fits bytes short = rw (name_back b.name named, exit_found to fits) refl
+property_read b (board.Text Name s) named fits bytes short = rw (name_back b.name named, string_back 50 s bytes short) refl
+property_read b (board.Text Message s) named fits bytes short = rw (name_back b.name named, string_back 58 s bytes short) refl
+property_read b (board.Rank n) named fits bytes short = rw (name_back b.name named, number_back 65535 n (omega arith)) refl
 
 -- ---- fields of a stat
 
@@ -213,40 +188,41 @@ other_found : (at s : StatId) → IsName s.name → other_of (stat_place.Named a
 other_found at s fits = rw (name_back s.name fits) refl
 
 stat_found : (at : StatId) (s : Option StatId) → IfSome s (λ x. IsName x.name)
-    → unless_none (other_of (stat_place.Named at)) (optional stat_name s) ≡ Some (option_map stat_place.Named s)
+    → unless_none (optional stat_name s) (other_of (stat_place.Named at) (optional stat_name s)) ≡ Some (option_map stat_place.Named s)
 stat_found at None fits = refl
-stat_found at (Some s) fits = not_none s.name fits StatPlace (other_of (stat_place.Named at)) (stat_place.Named s) (other_found at s fits)
+stat_found at (Some s) fits = rw (other_found at s fits) (not_none s.name fits StatPlace (stat_place.Named s))
 
 a_text : (t : TextId) → IsName t.name → text_of (text_name t) ≡ Some t
 a_text t fits = rw (name_back t.name fits) refl
 
-text_found : (t : Option TextId) → IfSome t (λ x. IsName x.name) → unless_none text_of (optional text_name t) ≡ Some t
+text_found : (t : Option TextId) → IfSome t (λ x. IsName x.name)
+    → unless_none (optional text_name t) (text_of (optional text_name t)) ≡ Some t
 text_found None fits = refl
-text_found (Some t) fits = not_none t.name fits TextId text_of t (a_text t fits)
+text_found (Some t) fits = rw (a_text t fits) (not_none t.name fits TextId t)
 
-field_read : (at : StatId) (s : StatSetting) → IsStatSetting s
-    → stat_read (stat_place.Named at) (map word_of (stat_words s)) ≡ Ok (field_wish s)
-unfolding stat_read field_of place_field_of other_field_of stat_byte stat_number p3_board p3 step follower leader stat_text under_element under_colour under
-field_read at (stat.Byte X n) fits = rw (number_back 255 n (omega arith)) refl
-field_read at (stat.Byte Y n) fits = rw (number_back 255 n (omega arith)) refl
-field_read at (stat.Byte P1 n) fits = rw (number_back 255 n (omega arith)) refl
-field_read at (stat.Byte P2 n) fits = rw (number_back 255 n (omega arith)) refl
-field_read at (stat.Byte UnderElement n) fits = rw (element_back n fits) refl
-field_read at (stat.Byte UnderColour n) fits = rw (colour_back n fits) refl
-field_read at (stat.Number StepX n) fits = rw (integer_back n fits) refl
-field_read at (stat.Number StepY n) fits = rw (integer_back n fits) refl
-field_read at (stat.Number Cycle n) fits = rw (integer_back n fits) refl
-field_read at (stat.Number Position n) fits = rw (integer_back n fits) refl
-field_read at (stat.P3 (third.Byte n)) fits = rw (not_board n, number_back 255 n (omega arith)) refl
-field_read at (stat.P3 (third.Board b)) fits = rw (name_back b.name fits) refl
-field_read at (stat.Follower s) fits = rw (stat_found at s fits) refl
-field_read at (stat.Leader s) fits = rw (stat_found at s fits) refl
-field_read at (stat.Text t) fits = rw (text_found t fits) refl
+-- `board` is no byte
+not_byte : byte_of (codes "board") ≡ None
+unfolding number_of
+not_byte = refl
 
-stat_wish_read : (k : StatId) (s : StatSetting) → IsName k.name → IsStatSetting s
+field_read : (k : StatId) (s : StatSetting) → IsName k.name → IsStatSetting s
     → wish_of (map word_of (Plain (codes "stat") ∷ Plain (stat_name k) ∷ stat_words s)) ≡ Ok (wish.Stat (stat_place.Named k) (field_wish s))
-unfolding wish_of stat_thing stat_wish_at
-stat_wish_read k s named fits = rw (name_back k.name named, field_read k s fits) refl
+unfolding wish_of reading
+field_read k (stat.Byte X n) named fits = rw (name_back k.name named, number_back 255 n (omega arith)) refl
+field_read k (stat.Byte Y n) named fits = rw (name_back k.name named, number_back 255 n (omega arith)) refl
+field_read k (stat.Byte P1 n) named fits = rw (name_back k.name named, number_back 255 n (omega arith)) refl
+field_read k (stat.Byte P2 n) named fits = rw (name_back k.name named, number_back 255 n (omega arith)) refl
+field_read k (stat.Byte UnderElement n) named fits = rw (name_back k.name named, element_back n fits) refl
+field_read k (stat.Byte UnderColour n) named fits = rw (name_back k.name named, colour_back n fits) refl
+field_read k (stat.Number StepX n) named fits = rw (name_back k.name named, integer_back n fits) refl
+field_read k (stat.Number StepY n) named fits = rw (name_back k.name named, integer_back n fits) refl
+field_read k (stat.Number Cycle n) named fits = rw (name_back k.name named, integer_back n fits) refl
+field_read k (stat.Number Position n) named fits = rw (name_back k.name named, integer_back n fits) refl
+field_read k (stat.P3 (third.Byte n)) named fits = rw (name_back k.name named, number_back 255 n (omega arith)) refl
+field_read k (stat.P3 (third.Board b)) named fits = rw (name_back k.name named, not_byte, name_back b.name fits) refl
+field_read k (stat.Follower s) named fits = rw (name_back k.name named, stat_found k s fits) refl
+field_read k (stat.Leader s) named fits = rw (name_back k.name named, stat_found k s fits) refl
+field_read k (stat.Text t) named fits = rw (name_back k.name named, text_found t fits) refl
 
 -- ---- the laws
 
@@ -254,7 +230,7 @@ pub header_is_read : HeaderIsRead
 header_is_read s fits bytes short = (header_line s, header_read s fits bytes short)
 
 pub property_is_read : PropertyIsRead
-property_is_read b s named fits bytes short = (board_line b s, board_wish_read b s named fits bytes short)
+property_is_read b s named fits bytes short = (board_line b s, property_read b s named fits bytes short)
 
 pub field_is_read : FieldIsRead
-field_is_read k s named fits = (stat_line k s, stat_wish_read k s named fits)
+field_is_read k s named fits = (stat_line k s, field_read k s named fits)

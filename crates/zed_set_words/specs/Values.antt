@@ -1,16 +1,10 @@
 -- The values that a word may be.
 use Rattle.std.specs.Prelude.{ℕ, zero, suc, ℤ, pos, negsuc, ◌+◌, ◌*◌, ◌-◌, nat_le, Bool, true, false, ◌&&◌, ◌==◌, if◌then◌else◌, List, [], ◌∷◌, length, map, codes, Option, Some, None, option_and_then, option_map}
-use Rattle.std.specs.List.{find}
 use Rattle.std.specs.Str.{bytes_eq}
 use Rattle.std.specs.Char.{to_ascii_lowercase}
 use Rattle.zed_digits.specs.Digits.{digits_of}
 use Rattle.zed_types.specs.declared.names.Name.{Name}
-use Rattle.zed_types.specs.declared.header.FlagSlot.{FlagSlot}
-use Rattle.zed_types.specs.declared.header.FlagSlot.TheVariants.{First, Second, Third, Fourth, Fifth, Sixth, Seventh, Eighth, Ninth, Tenth}
-use Rattle.zed_types.specs.declared.header.KeyColour.{KeyColour}
-use Rattle.zed_types.specs.declared.header.KeyColour.TheVariants.{Blue, Green, Cyan, Red, Purple, Yellow, White}
-use Rattle.zed_types.specs.declared.property.Side.{Side}
-use Rattle.zed_types.specs.declared.property.Side.TheVariants.{North, South, West, East}
+use Rattle.zed_types.specs.declared.names.TextId.{TextId}
 use Rattle.zed_types.specs.Elements.{row_of}
 use Rattle.zed_set_words.specs.declared.wishes.BoardPlace.{BoardPlace}
 use Rattle.zed_set_words.specs.declared.wishes.BoardPlace.TheVariants as board
@@ -62,34 +56,10 @@ unfoldable pub integer_of : Word → Option ℤ
 integer_of [] = None
 integer_of (c ∷ cs) = if c == 45 then below_zero (number_of 32768 cs) else option_map pos (number_of 32767 (c ∷ cs))
 
--- ---- choices
-
--- what a table has beside a word
-abbrev pub named : {A : Type 0} → List (Word × A) → Word → Option A
-named rows word = option_map (λ r. r.1) (find (λ r. bytes_eq word r.0) rows)
-
--- a row of a table
-abbrev pub row : {A : Type 0} → Word → A → Word × A
-row word x = (word, x)
-
 -- `yes` or `no`
 abbrev pub flag_of : Word → Option Bool
-flag_of word = named (row (codes "yes") true ∷ row (codes "no") false ∷ []) word
-
--- the colour of a key
-abbrev pub key_of : Word → Option KeyColour
-key_of word = named (row (codes "blue") Blue ∷ row (codes "green") Green ∷ row (codes "cyan") Cyan ∷ row (codes "red") Red
-    ∷ row (codes "purple") Purple ∷ row (codes "yellow") Yellow ∷ row (codes "white") White ∷ []) word
-
--- the number of a flag, from 1 on
-abbrev pub slot_of : Word → Option FlagSlot
-slot_of word =
-    named (row (codes "1") First ∷ row (codes "2") Second ∷ row (codes "3") Third ∷ row (codes "4") Fourth ∷ row (codes "5") Fifth
-    ∷ row (codes "6") Sixth ∷ row (codes "7") Seventh ∷ row (codes "8") Eighth ∷ row (codes "9") Ninth ∷ row (codes "10") Tenth ∷ []) word
-
--- a side of a board
-abbrev pub side_of : Word → Option Side
-side_of word = named (row (codes "north") North ∷ row (codes "south") South ∷ row (codes "west") West ∷ row (codes "east") East ∷ []) word
+flag_of word =
+    if bytes_eq word (codes "yes") then Some true else (if bytes_eq word (codes "no") then Some false else None)
 
 -- ---- elements, colours
 
@@ -164,6 +134,10 @@ other_of (stat.Numbered b s) word =
     or_else (option_map (λ n. stat.Named (record { name = n })) (name_of word)) (option_map (λ k. stat.Numbered b k) (short_of word))
 other_of (stat.Named s) word = option_map (λ n. stat.Named (record { name = n })) (name_of word)
 
--- a thing, or `none`
-abbrev pub unless_none : {A : Type 0} → (Word → Option A) → Word → Option (Option A)
-unless_none read word = if bytes_eq word (codes "none") then Some None else option_map (λ x. Some x) (read word)
+-- a text: its name
+abbrev pub text_of : Word → Option TextId
+text_of word = option_map (λ n. record { name = n }) (name_of word)
+
+-- a thing that was read from a word, or `none`
+abbrev pub unless_none : {A : Type 0} → Word → Option A → Option (Option A)
+unless_none word thing = if bytes_eq word (codes "none") then Some None else option_map (λ x. Some x) thing

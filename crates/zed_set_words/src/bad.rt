@@ -1,7 +1,6 @@
 //! Wrong words.
-ghost use Rattle.std.specs.Prelude.{◌≡◌, length};
+ghost use Rattle.std.specs.Prelude.{◌≡◌};
 ghost use Rattle.zed_set_words.specs.Texts.{text_of};
-ghost use Rattle.zed_set_words.specs.Readers.{stop as stop_at, words_of};
 
 /// What may be in the place of a wrong or missing word.
 #[derive(Clone, Copy, Debug)]
@@ -100,23 +99,4 @@ pub struct BadWord {
     pub at: usize,
     /// What may be there.
     pub expected: Expected,
-}
-
-/// Where a reader stops.
-#[derive(Clone, Copy)]
-pub(crate) struct Stop {
-    /// How many words are left, with the wrong one.
-    pub(crate) left: usize,
-    pub(crate) expected: Expected,
-}
-
-/// A stop at the first of these words, or at their end if there are none.
-#[tactic(auto, using(crate::proofs::Tests::lent_length))]
-pub(crate) fn stopped(words: &[&str], expected: Expected) -> Stop
-    ensures { result ≡ stop_at (words_of words.now) expected }
-{
-    Stop {
-        left: words.len(),
-        expected,
-    }
 }

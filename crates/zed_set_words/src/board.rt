@@ -1,119 +1,130 @@
 //! Properties of a board.
 ghost use Rattle.std.specs.Prelude.{◌≡◌};
-ghost use Rattle.zed_set_words.specs.Readers.{words_of};
+ghost use Rattle.zed_set_words.specs.Readers.{rows_of};
 ghost use Rattle.zed_set_words.specs.Rows as rows;
 
-use crate::bad::{Expected, Stop, stopped};
-use crate::heads::{PropertyWord, property};
-use crate::thing;
-use crate::value::{behind, byte, column_and_row, exit_place, flag, number, rank, text};
+use crate::bad::Expected;
+use crate::numerals::{byte, integer, short};
+use crate::place::{board_place, unless_none};
+use crate::text::string;
+use crate::thing::flag;
 use crate::wishes::BoardWish;
-use zed_types::{BoardByte, BoardFlag, BoardText, MESSAGE_LIMIT, NAME_LIMIT};
+use zed_types::{BoardByte, BoardFlag, BoardText, MESSAGE_LIMIT, NAME_LIMIT, Side};
 
-#[tactic(auto, unfolding(crate::specs::Rows::board_byte))]
-fn board_byte<'a>(field: BoardByte, words: &[&'a str]) -> Result<BoardWish<'a>, Stop>
-    ensures { result ≡ rows.board_byte field (words_of words.now) }
-{
-    Ok(BoardWish::Byte(field, byte(words)?))
+/// What the next word has to say of a property of a board.
+#[derive(Clone, Copy)]
+pub(crate) enum BoardState {
+    /// The first word of a property.
+    Property,
+    MaxShots,
+    /// The part of the place where the player starts, or a column.
+    Start,
+    /// A side.
+    Exit,
+    TimeLimit,
+    Name,
+    Message,
+    /// The value of this flag.
+    Flag(BoardFlag),
+    /// The value of this byte.
+    Byte(BoardByte),
+    /// The row, behind this column.
+    StartRow(u8),
+    /// What is behind this side.
+    Behind(Side),
+    Ticks,
+    Rank,
 }
 
-#[tactic(auto, unfolding(crate::specs::Rows::board_flag))]
-fn board_flag<'a>(field: BoardFlag, words: &[&'a str]) -> Result<BoardWish<'a>, Stop>
-    ensures { result ≡ rows.board_flag field (words_of words.now) }
-{
-    Ok(BoardWish::Flag(field, flag(words)?))
-}
+const PROPERTIES: [(&str, BoardState); 9] = [
+    ("name", BoardState::Name),
+    ("message", BoardState::Message),
+    ("dark", BoardState::Flag(BoardFlag::Dark)),
+    ("re-enter", BoardState::Flag(BoardFlag::ReEnter)),
+    ("max", BoardState::MaxShots),
+    ("start", BoardState::Start),
+    ("exit", BoardState::Exit),
+    ("time", BoardState::TimeLimit),
+    ("rank", BoardState::Rank),
+];
 
-#[tactic(auto, unfolding(crate::specs::Rows::board_name))]
-fn board_name<'a>(words: &[&'a str]) -> Result<BoardWish<'a>, Stop>
-    ensures { result ≡ rows.board_name (words_of words.now) }
-{
-    let name = text(words, NAME_LIMIT, Expected::NameText)?;
-    Ok(BoardWish::Text(BoardText::Name, name))
-}
+const MAX: [(&str, BoardState); 1] = [("shots", BoardState::Byte(BoardByte::MaxShots))];
 
-#[tactic(auto, unfolding(crate::specs::Rows::message))]
-fn message<'a>(words: &[&'a str]) -> Result<BoardWish<'a>, Stop>
-    ensures { result ≡ rows.message (words_of words.now) }
-{
-    let message = text(words, MESSAGE_LIMIT, Expected::MessageText)?;
-    Ok(BoardWish::Text(BoardText::Message, message))
-}
+const START: [(&str, BoardState); 2] = [
+    ("x", BoardState::Byte(BoardByte::StartX)),
+    ("y", BoardState::Byte(BoardByte::StartY)),
+];
 
-#[tactic(auto, unfolding(crate::specs::Rows::max_shots))]
-fn max_shots<'a>(words: &[&'a str]) -> Result<BoardWish<'a>, Stop>
-    ensures { result ≡ rows.max_shots (words_of words.now) }
-{
-    let rest = behind(words, "shots", Expected::ShotsWord)?;
-    board_byte(BoardByte::MaxShots, rest)
-}
+const SIDES: [(&str, BoardState); 4] = [
+    ("north", BoardState::Behind(Side::North)),
+    ("south", BoardState::Behind(Side::South)),
+    ("west", BoardState::Behind(Side::West)),
+    ("east", BoardState::Behind(Side::East)),
+];
 
-#[tactic(auto, unfolding(crate::specs::Rows::time_limit))]
-fn time_limit<'a>(words: &[&'a str]) -> Result<BoardWish<'a>, Stop>
-    ensures { result ≡ rows.time_limit (words_of words.now) }
-{
-    let rest = behind(words, "limit", Expected::LimitWord)?;
-    Ok(BoardWish::TimeLimit(number(rest)?))
-}
+const TIME: [(&str, BoardState); 1] = [("limit", BoardState::Ticks)];
 
-#[tactic(auto, unfolding(crate::specs::Rows::board_rank))]
-fn board_rank<'a>(words: &[&'a str]) -> Result<BoardWish<'a>, Stop>
-    ensures { result ≡ rows.board_rank (words_of words.now) }
+/// The words that may stand there, and what stands behind each.
+pub(crate) fn board_rows(state: BoardState) -> &'static [(&'static str, BoardState)]
+    ensures { rows_of result.now ≡ rows.board_rows state }
 {
-    Ok(BoardWish::Rank(rank(words)?))
-}
-
-#[tactic(auto, unfolding(crate::specs::Rows::exit))]
-fn exit<'a>(words: &[&'a str]) -> Result<BoardWish<'a>, Stop>
-    ensures { result ≡ rows.exit (words_of words.now) }
-{
-    let [word, rest @ ..] = words else {
-        return Err(stopped(words, Expected::Side));
-    };
-    let side = thing::side(word).ok_or(stopped(words, Expected::Side))?;
-    Ok(BoardWish::Exit(side, exit_place(rest)?))
-}
-
-fn start_place<'a>(words: &[&'a str]) -> Result<BoardWish<'a>, Stop>
-    ensures { result ≡ rows.start_place (words_of words.now) }
-{
-    let (x, y) = column_and_row(words, Expected::StartPart)?;
-    Ok(BoardWish::Start(x, y))
-}
-
-#[tactic(auto, unfolding(crate::specs::Rows::start))]
-fn start<'a>(words: &[&'a str]) -> Result<BoardWish<'a>, Stop>
-    ensures { result ≡ rows.start (words_of words.now) }
-{
-    let [word, rest @ ..] = words else {
-        return Err(stopped(words, Expected::StartPart));
-    };
-    if *word == "x" {
-        board_byte(BoardByte::StartX, rest)
-    } else if *word == "y" {
-        board_byte(BoardByte::StartY, rest)
-    } else {
-        start_place(words)
+    match state {
+        BoardState::Property => &PROPERTIES,
+        BoardState::MaxShots => &MAX,
+        BoardState::Start => &START,
+        BoardState::Exit => &SIDES,
+        BoardState::TimeLimit => &TIME,
+        _ => &[],
     }
 }
 
-/// A property of a board, and its value.
-#[tactic(auto, unfolding(crate::specs::Rows::board))]
-pub(crate) fn board<'a>(words: &[&'a str]) -> Result<BoardWish<'a>, Stop>
-    ensures { result ≡ rows.board (words_of words.now) }
+/// What stands behind a number.
+pub(crate) fn board_behind(state: BoardState, word: &str) -> Option<BoardState>
+    ensures { result ≡ rows.board_behind state word.now }
 {
-    let [word, rest @ ..] = words else {
-        return Err(stopped(words, Expected::Property));
-    };
-    let said = property(word).ok_or(stopped(words, Expected::Property))?;
-    match said {
-        PropertyWord::Name => board_name(rest),
-        PropertyWord::Message => message(rest),
-        PropertyWord::Flag(field) => board_flag(field, rest),
-        PropertyWord::Max => max_shots(rest),
-        PropertyWord::Start => start(rest),
-        PropertyWord::Exit => exit(rest),
-        PropertyWord::Time => time_limit(rest),
-        PropertyWord::Rank => board_rank(rest),
+    match state {
+        BoardState::Start => Some(BoardState::StartRow(byte(word)?)),
+        _ => None,
+    }
+}
+
+/// What a word says where the value of a property is due.
+pub(crate) fn board_said<'a>(state: BoardState, word: &'a str) -> Option<BoardWish<'a>>
+    ensures { result ≡ rows.board_said state word.now }
+{
+    match state {
+        BoardState::Name => Some(BoardWish::Text(BoardText::Name, string(word, NAME_LIMIT)?)),
+        BoardState::Message => {
+            Some(BoardWish::Text(BoardText::Message, string(word, MESSAGE_LIMIT)?))
+        }
+        BoardState::Flag(field) => Some(BoardWish::Flag(field, flag(word)?)),
+        BoardState::Byte(field) => Some(BoardWish::Byte(field, byte(word)?)),
+        BoardState::StartRow(x) => Some(BoardWish::Start(x, byte(word)?)),
+        BoardState::Behind(side) => {
+            Some(BoardWish::Exit(side, unless_none(word, board_place(word))?))
+        }
+        BoardState::Ticks => Some(BoardWish::TimeLimit(integer(word)?)),
+        BoardState::Rank => Some(BoardWish::Rank(short(word)?)),
+        _ => None,
+    }
+}
+
+/// What may stand there.
+pub(crate) fn board_expected(state: BoardState) -> Expected
+    ensures { result ≡ rows.board_expected state }
+{
+    match state {
+        BoardState::Property => Expected::Property,
+        BoardState::MaxShots => Expected::ShotsWord,
+        BoardState::Start => Expected::StartPart,
+        BoardState::Exit => Expected::Side,
+        BoardState::TimeLimit => Expected::LimitWord,
+        BoardState::Name => Expected::NameText,
+        BoardState::Message => Expected::MessageText,
+        BoardState::Flag(_) => Expected::YesOrNo,
+        BoardState::Byte(_) | BoardState::StartRow(_) => Expected::Byte,
+        BoardState::Behind(_) => Expected::BoardOrNone,
+        BoardState::Ticks => Expected::Number,
+        BoardState::Rank => Expected::Rank,
     }
 }

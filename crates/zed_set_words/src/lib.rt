@@ -4,17 +4,15 @@
 
 mod bad;
 mod board;
-mod heads;
 mod laws;
 mod numerals;
 mod place;
 mod reading;
-mod register;
 mod stat;
 mod text;
 mod thing;
-mod value;
 mod wishes;
+mod world;
 
 pub use bad::{BadWord, Expected};
 pub use laws::wrong_word_is_the_first;

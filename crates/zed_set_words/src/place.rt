@@ -1,7 +1,6 @@
 //! Things in words: by their numbers, or by their names.
-ghost use Rattle.std.specs.Prelude.{◌≡◌, None, Some, option_map};
-ghost use Rattle.zed_set_words.specs.Rows.{text_of};
-ghost use Rattle.zed_set_words.specs.Values.{board_of, name_of, other_of, unless_none as but_none};
+ghost use Rattle.std.specs.Prelude.{◌≡◌};
+ghost use Rattle.zed_set_words.specs.Values.{board_of, name_of, other_of, text_of, unless_none as but_none};
 
 use crate::numerals::{index, number, short};
 use crate::thing::cut;
@@ -47,39 +46,20 @@ pub(crate) fn other(at: StatPlace, word: &str) -> Option<StatPlace>
     }
 }
 
-fn text(word: &str) -> Option<TextId>
+pub(crate) fn text(word: &str) -> Option<TextId>
     ensures { result ≡ text_of word.now }
 {
     let name = name(word)?;
     Some(TextId { name })
 }
 
-/// What is behind a side: a board, or none.
-pub(crate) fn exit_place(word: &str) -> Option<Option<BoardPlace>>
-    ensures { result ≡ but_none board_of word.now }
+/// A thing that was read from a word, or none.
+pub(crate) fn unless_none<T: Copy>(word: &str, thing: Option<T>) -> Option<Option<T>>
+    ensures { result ≡ but_none word.now thing }
 {
     if word == "none" {
-        return Some(None);
+        Some(None)
+    } else {
+        Some(Some(thing?))
     }
-    Some(Some(board_place(word)?))
-}
-
-/// A stat beside another, or none.
-pub(crate) fn other_or_none(at: StatPlace, word: &str) -> Option<Option<StatPlace>>
-    ensures { result ≡ but_none (other_of at) word.now }
-{
-    if word == "none" {
-        return Some(None);
-    }
-    Some(Some(other(at, word)?))
-}
-
-/// A text, or none.
-pub(crate) fn text_or_none(word: &str) -> Option<Option<TextId>>
-    ensures { result ≡ but_none text_of word.now }
-{
-    if word == "none" {
-        return Some(None);
-    }
-    Some(Some(text(word)?))
 }

@@ -1,168 +1,134 @@
 //! Fields of a stat.
 ghost use Rattle.std.specs.Prelude.{◌≡◌};
-ghost use Rattle.zed_set_words.specs.Readers.{words_of};
+ghost use Rattle.zed_set_words.specs.Readers.{rows_of};
 ghost use Rattle.zed_set_words.specs.Rows as rows;
 
-use crate::bad::{Expected, Stop, stopped};
-use crate::heads::{FieldWord, field};
-use crate::value::{
-    behind, board_place, byte, colour, column_and_row, element, number, other, other_or_none,
-    target, text_or_none,
-};
+use crate::bad::Expected;
+use crate::numerals::{byte, integer};
+use crate::place::{board_place, other, text, unless_none};
+use crate::thing::{colour, element};
 use crate::wishes::{P3Wish, StatPlace, StatWish};
 use zed_types::{StatByte, StatNumber};
 
-#[tactic(auto, unfolding(crate::specs::Rows::stat_byte))]
-fn stat_byte(field: StatByte, words: &[&str]) -> Result<StatWish, Stop>
-    ensures { result ≡ rows.stat_byte field (words_of words.now) }
-{
-    Ok(StatWish::Byte(field, byte(words)?))
+/// What the next word has to say of a field of a stat.
+#[derive(Clone, Copy)]
+pub(crate) enum StatState {
+    /// The first word of a field.
+    Field,
+    /// The column of a stat.
+    At,
+    /// A byte, or `board`.
+    P3,
+    LeadsTo,
+    Step,
+    Under,
+    /// The row, behind this column.
+    AtRow(u8),
+    /// The value of this byte.
+    Byte(StatByte),
+    /// The value of this number.
+    Number(StatNumber),
+    /// The board of the third parameter.
+    P3Board,
+    Follower,
+    Leader,
+    Text,
+    Shares,
+    Element,
+    Colour,
 }
 
-#[tactic(auto, unfolding(crate::specs::Rows::stat_number))]
-fn stat_number(field: StatNumber, words: &[&str]) -> Result<StatWish, Stop>
-    ensures { result ≡ rows.stat_number field (words_of words.now) }
-{
-    Ok(StatWish::Number(field, number(words)?))
-}
+const FIELDS: [(&str, StatState); 16] = [
+    ("at", StatState::At),
+    ("x", StatState::Byte(StatByte::X)),
+    ("y", StatState::Byte(StatByte::Y)),
+    ("p1", StatState::Byte(StatByte::P1)),
+    ("p2", StatState::Byte(StatByte::P2)),
+    ("p3", StatState::P3),
+    ("leads-to", StatState::LeadsTo),
+    ("step", StatState::Step),
+    ("cycle", StatState::Number(StatNumber::Cycle)),
+    ("position", StatState::Number(StatNumber::Position)),
+    ("follower", StatState::Follower),
+    ("leader", StatState::Leader),
+    ("follows", StatState::Leader),
+    ("text", StatState::Text),
+    ("shares", StatState::Shares),
+    ("under", StatState::Under),
+];
 
-#[tactic(auto, unfolding(crate::specs::Rows::stat_at))]
-fn stat_at(words: &[&str]) -> Result<StatWish, Stop>
-    ensures { result ≡ rows.stat_at (words_of words.now) }
-{
-    let (x, y) = column_and_row(words, Expected::Byte)?;
-    Ok(StatWish::At(x, y))
-}
+const BOARD: [(&str, StatState); 1] = [("board", StatState::P3Board)];
 
-#[tactic(auto, unfolding(crate::specs::Rows::p3_board))]
-fn p3_board(words: &[&str]) -> Result<StatWish, Stop>
-    ensures { result ≡ rows.p3_board (words_of words.now) }
-{
-    Ok(StatWish::P3(P3Wish::Board(board_place(words)?)))
-}
+const STEP: [(&str, StatState); 2] = [
+    ("x", StatState::Number(StatNumber::StepX)),
+    ("y", StatState::Number(StatNumber::StepY)),
+];
 
-fn p3_byte(words: &[&str]) -> Result<StatWish, Stop>
-    ensures { result ≡ rows.p3_byte (words_of words.now) }
-{
-    Ok(StatWish::P3(P3Wish::Byte(target(words)?)))
-}
+const UNDER: [(&str, StatState); 2] = [
+    ("element", StatState::Element),
+    ("colour", StatState::Colour),
+];
 
-#[tactic(auto, unfolding(crate::specs::Rows::p3))]
-fn p3(words: &[&str]) -> Result<StatWish, Stop>
-    ensures { result ≡ rows.p3 (words_of words.now) }
+/// The words that may stand there, and what stands behind each.
+pub(crate) fn stat_rows(state: StatState) -> &'static [(&'static str, StatState)]
+    ensures { rows_of result.now ≡ rows.stat_rows state }
 {
-    let [word, rest @ ..] = words else {
-        return Err(stopped(words, Expected::Target));
-    };
-    if *word == "board" {
-        p3_board(rest)
-    } else {
-        p3_byte(words)
+    match state {
+        StatState::Field => &FIELDS,
+        StatState::P3 | StatState::LeadsTo => &BOARD,
+        StatState::Step => &STEP,
+        StatState::Under => &UNDER,
+        _ => &[],
     }
 }
 
-#[tactic(auto, unfolding(crate::specs::Rows::leads_to))]
-fn leads_to(words: &[&str]) -> Result<StatWish, Stop>
-    ensures { result ≡ rows.leads_to (words_of words.now) }
+/// What stands behind a number.
+pub(crate) fn stat_behind(state: StatState, word: &str) -> Option<StatState>
+    ensures { result ≡ rows.stat_behind state word.now }
 {
-    let rest = behind(words, "board", Expected::BoardWord)?;
-    p3_board(rest)
-}
-
-#[tactic(auto, unfolding(crate::specs::Rows::step))]
-fn step(words: &[&str]) -> Result<StatWish, Stop>
-    ensures { result ≡ rows.step (words_of words.now) }
-{
-    let [word, rest @ ..] = words else {
-        return Err(stopped(words, Expected::AtPart));
-    };
-    if *word == "x" {
-        stat_number(StatNumber::StepX, rest)
-    } else if *word == "y" {
-        stat_number(StatNumber::StepY, rest)
-    } else {
-        Err(stopped(words, Expected::AtPart))
+    match state {
+        StatState::At => Some(StatState::AtRow(byte(word)?)),
+        _ => None,
     }
 }
 
-#[tactic(auto, unfolding(crate::specs::Rows::follower))]
-fn follower(at: StatPlace, words: &[&str]) -> Result<StatWish, Stop>
-    ensures { result ≡ rows.follower at (words_of words.now) }
+/// What a word says where the value of a field of this stat is due.
+pub(crate) fn stat_said(at: StatPlace, state: StatState, word: &str) -> Option<StatWish>
+    ensures { result ≡ rows.stat_said at state word.now }
 {
-    Ok(StatWish::Follower(other_or_none(at, words)?))
-}
-
-#[tactic(auto, unfolding(crate::specs::Rows::leader))]
-fn leader(at: StatPlace, words: &[&str]) -> Result<StatWish, Stop>
-    ensures { result ≡ rows.leader at (words_of words.now) }
-{
-    Ok(StatWish::Leader(other_or_none(at, words)?))
-}
-
-#[tactic(auto, unfolding(crate::specs::Rows::stat_text))]
-fn stat_text(words: &[&str]) -> Result<StatWish, Stop>
-    ensures { result ≡ rows.stat_text (words_of words.now) }
-{
-    Ok(StatWish::Text(text_or_none(words)?))
-}
-
-#[tactic(auto, unfolding(crate::specs::Rows::shares))]
-fn shares(at: StatPlace, words: &[&str]) -> Result<StatWish, Stop>
-    ensures { result ≡ rows.shares at (words_of words.now) }
-{
-    Ok(StatWish::Shares(other(at, words)?))
-}
-
-#[tactic(auto, unfolding(crate::specs::Rows::under_element))]
-fn under_element(words: &[&str]) -> Result<StatWish, Stop>
-    ensures { result ≡ rows.under_element (words_of words.now) }
-{
-    Ok(StatWish::Byte(StatByte::UnderElement, element(words)?))
-}
-
-#[tactic(auto, unfolding(crate::specs::Rows::under_colour))]
-fn under_colour(words: &[&str]) -> Result<StatWish, Stop>
-    ensures { result ≡ rows.under_colour (words_of words.now) }
-{
-    Ok(StatWish::Byte(StatByte::UnderColour, colour(words)?))
-}
-
-#[tactic(auto, unfolding(crate::specs::Rows::under))]
-fn under(words: &[&str]) -> Result<StatWish, Stop>
-    ensures { result ≡ rows.under (words_of words.now) }
-{
-    let [word, rest @ ..] = words else {
-        return Err(stopped(words, Expected::UnderPart));
-    };
-    if *word == "element" {
-        under_element(rest)
-    } else if *word == "colour" {
-        under_colour(rest)
-    } else {
-        Err(stopped(words, Expected::UnderPart))
+    match state {
+        StatState::P3 => Some(StatWish::P3(P3Wish::Byte(byte(word)?))),
+        StatState::AtRow(x) => Some(StatWish::At(x, byte(word)?)),
+        StatState::Byte(field) => Some(StatWish::Byte(field, byte(word)?)),
+        StatState::Number(field) => Some(StatWish::Number(field, integer(word)?)),
+        StatState::P3Board => Some(StatWish::P3(P3Wish::Board(board_place(word)?))),
+        StatState::Follower => Some(StatWish::Follower(unless_none(word, other(at, word))?)),
+        StatState::Leader => Some(StatWish::Leader(unless_none(word, other(at, word))?)),
+        StatState::Text => Some(StatWish::Text(unless_none(word, text(word))?)),
+        StatState::Shares => Some(StatWish::Shares(other(at, word)?)),
+        StatState::Element => Some(StatWish::Byte(StatByte::UnderElement, element(word)?)),
+        StatState::Colour => Some(StatWish::Byte(StatByte::UnderColour, colour(word)?)),
+        _ => None,
     }
 }
 
-/// A field of a stat, and its value.
-#[tactic(auto, unfolding(crate::specs::Rows::stat))]
-pub(crate) fn stat(at: StatPlace, words: &[&str]) -> Result<StatWish, Stop>
-    ensures { result ≡ rows.stat at (words_of words.now) }
+/// What may stand there.
+pub(crate) fn stat_expected(state: StatState) -> Expected
+    ensures { result ≡ rows.stat_expected state }
 {
-    let [word, rest @ ..] = words else {
-        return Err(stopped(words, Expected::Field));
-    };
-    let said = field(word).ok_or(stopped(words, Expected::Field))?;
-    match said {
-        FieldWord::At => stat_at(rest),
-        FieldWord::Byte(field) => stat_byte(field, rest),
-        FieldWord::P3 => p3(rest),
-        FieldWord::LeadsTo => leads_to(rest),
-        FieldWord::Step => step(rest),
-        FieldWord::Number(field) => stat_number(field, rest),
-        FieldWord::Follower => follower(at, rest),
-        FieldWord::Leader => leader(at, rest),
-        FieldWord::Text => stat_text(rest),
-        FieldWord::Shares => shares(at, rest),
-        FieldWord::Under => under(rest),
+    match state {
+        StatState::Field => Expected::Field,
+        StatState::P3 => Expected::Target,
+        StatState::LeadsTo => Expected::BoardWord,
+        StatState::Step => Expected::AtPart,
+        StatState::Under => Expected::UnderPart,
+        StatState::At | StatState::AtRow(_) | StatState::Byte(_) => Expected::Byte,
+        StatState::Number(_) => Expected::Number,
+        StatState::P3Board => Expected::BoardPlace,
+        StatState::Follower | StatState::Leader => Expected::StatOrNone,
+        StatState::Text => Expected::TextOrNone,
+        StatState::Shares => Expected::OtherStat,
+        StatState::Element => Expected::Element,
+        StatState::Colour => Expected::Colour,
     }
 }

@@ -1,9 +1,9 @@
 //! Elements, colours and choices in words.
 ghost use Rattle.std.specs.Prelude.{◌≡◌, ◌<◌, IfSome, MatchOption, None, Some};
-ghost use Rattle.zed_set_words.specs.Values.{colour_of, cut as cut_at, element_below as below, element_of, flag_of, hex_of, hex_pair_of, is_word_of as has_word, key_of, numbered_of, side_of, slot_of, worded_of};
+ghost use Rattle.zed_set_words.specs.Values.{colour_of, cut as cut_at, element_below as below, element_of, flag_of, hex_of, hex_pair_of, is_word_of as has_word, numbered_of, worded_of};
 
 use crate::numerals::byte;
-use zed_types::{FlagSlot, KeyColour, Side, element as element_numbered};
+use zed_types::element as element_numbered;
 
 pub(crate) fn flag(word: &str) -> Option<bool>
     ensures { result ≡ flag_of word.now }
@@ -12,72 +12,6 @@ pub(crate) fn flag(word: &str) -> Option<bool>
         Some(true)
     } else if word == "no" {
         Some(false)
-    } else {
-        None
-    }
-}
-
-pub(crate) fn key(word: &str) -> Option<KeyColour>
-    ensures { result ≡ key_of word.now }
-{
-    if word == "blue" {
-        Some(KeyColour::Blue)
-    } else if word == "green" {
-        Some(KeyColour::Green)
-    } else if word == "cyan" {
-        Some(KeyColour::Cyan)
-    } else if word == "red" {
-        Some(KeyColour::Red)
-    } else if word == "purple" {
-        Some(KeyColour::Purple)
-    } else if word == "yellow" {
-        Some(KeyColour::Yellow)
-    } else if word == "white" {
-        Some(KeyColour::White)
-    } else {
-        None
-    }
-}
-
-pub(crate) fn slot(word: &str) -> Option<FlagSlot>
-    ensures { result ≡ slot_of word.now }
-{
-    if word == "1" {
-        Some(FlagSlot::First)
-    } else if word == "2" {
-        Some(FlagSlot::Second)
-    } else if word == "3" {
-        Some(FlagSlot::Third)
-    } else if word == "4" {
-        Some(FlagSlot::Fourth)
-    } else if word == "5" {
-        Some(FlagSlot::Fifth)
-    } else if word == "6" {
-        Some(FlagSlot::Sixth)
-    } else if word == "7" {
-        Some(FlagSlot::Seventh)
-    } else if word == "8" {
-        Some(FlagSlot::Eighth)
-    } else if word == "9" {
-        Some(FlagSlot::Ninth)
-    } else if word == "10" {
-        Some(FlagSlot::Tenth)
-    } else {
-        None
-    }
-}
-
-pub(crate) fn side(word: &str) -> Option<Side>
-    ensures { result ≡ side_of word.now }
-{
-    if word == "north" {
-        Some(Side::North)
-    } else if word == "south" {
-        Some(Side::South)
-    } else if word == "west" {
-        Some(Side::West)
-    } else if word == "east" {
-        Some(Side::East)
     } else {
         None
     }
