@@ -6,6 +6,7 @@ use Rattle.zed_op.specs.declared.op.Edit.{Edit}
 use Rattle.zed_world.specs.Contents.{Contents}
 use Rattle.zed_play.specs.declared.key.Key.{Key}
 use Rattle.zed_staging.specs.declared.input.Input.{Input}
+use Rattle.zed_staging.specs.declared.input.Size.{Size}
 use Rattle.zed_play.specs.Playtest.{Playtest}
 use Rattle.zed_host.specs.Counting.{Rose}
 use Rattle.zed_host.specs.HostContents.{HostContents}
@@ -35,45 +36,45 @@ other_on (Ok x) e told other = absurd told
 other_on (Err x) e told other = λ is. other (sym told ∙ is)
 
 -- nothing was played where there is no playtest
-pub unopened : (w : Option Contents) (rows : ℕ) (o : Result Playtest Refusal) (words : List ℕ) (s : Stage) (e : Refusal)
+pub unopened : (w : Option Contents) (size : Size) (o : Result Playtest Refusal) (words : List ℕ) (s : Stage) (e : Refusal)
     → (e ≡ Memory) ⊎ (o ≡ Err e)
-    → ((e ≡ Memory) × (s ≡ s)) ⊎ PerformsAny w rows o words s s (Err e)
-unopened w rows o words s e why = elim why [
+    → ((e ≡ Memory) × (s ≡ s)) ⊎ PerformsAny w size o words s s (Err e)
+unopened w size o words s e why = elim why [
   | inl memory ↦ inl (memory, refl)
-  | inr is ↦ inr (subst (λ p. PerformsAny w rows p words s s (Err e)) (sym is) (refl, refl))
+  | inr is ↦ inr (subst (λ p. PerformsAny w size p words s s (Err e)) (sym is) (refl, refl))
 ]
 
 -- what was played of one
-pub performed : (w v : Option Contents) (rows : ℕ) (o : Result Playtest Refusal) (p : Playtest) (words : List ℕ) (old new : Stage) (result : Result Tape Refusal)
+pub performed : (w v : Option Contents) (size : Size) (o : Result Playtest Refusal) (p : Playtest) (words : List ℕ) (old new : Stage) (result : Result Tape Refusal)
     → o ≡ Ok p → v ≡ w
-    → MatchResult result (λ t. PlaysFrom v rows p words old new (Ok (point t))) (λ e. PlaysFrom v rows p words old new (Err e))
-    → MatchResult result (λ t. PerformsAny w rows o words old new (Ok (point t))) (λ e. ((e ≡ Memory) × (new ≡ old)) ⊎ PerformsAny w rows o words old new (Err e))
-performed w v rows o p words old new (Ok t) is over performs =
-    subst (λ q. PerformsAny w rows q words old new (Ok (point t))) (sym is) (subst (λ u. PlaysFrom u rows p words old new (Ok (point t))) over performs)
-performed w v rows o p words old new (Err e) is over performs =
-    inr (subst (λ q. PerformsAny w rows q words old new (Err e)) (sym is) (subst (λ u. PlaysFrom u rows p words old new (Err e)) over performs))
+    → MatchResult result (λ t. PlaysFrom v size p words old new (Ok (point t))) (λ e. PlaysFrom v size p words old new (Err e))
+    → MatchResult result (λ t. PerformsAny w size o words old new (Ok (point t))) (λ e. ((e ≡ Memory) × (new ≡ old)) ⊎ PerformsAny w size o words old new (Err e))
+performed w v size o p words old new (Ok t) is over performs =
+    subst (λ q. PerformsAny w size q words old new (Ok (point t))) (sym is) (subst (λ u. PlaysFrom u size p words old new (Ok (point t))) over performs)
+performed w v size o p words old new (Err e) is over performs =
+    inr (subst (λ q. PerformsAny w size q words old new (Err e)) (sym is) (subst (λ u. PlaysFrom u size p words old new (Err e)) over performs))
 
 -- nothing was played where there is no set of edits
-pub unread : (failed : Type 0) (t : HostContents) (going : Going) (board rows : ℕ) (words : List ℕ) (names : List (List ℕ)) (s : Stage) (e : Refusal)
+pub unread : (failed : Type 0) (t : HostContents) (going : Going) (board : ℕ) (size : Size) (words : List ℕ) (names : List (List ℕ)) (s : Stage) (e : Refusal)
     → (e ≡ Memory) ⊎ Collects failed t names (Err e)
-    → ((e ≡ Memory) × (s ≡ s)) ⊎ IsPerformed failed t going board rows words names s s (Err e)
-unread failed t going board rows words names s e why = elim why [
+    → ((e ≡ Memory) × (s ≡ s)) ⊎ IsPerformed failed t going board size words names s s (Err e)
+unread failed t going board size words names s e why = elim why [
   | inl memory ↦ inl (memory, refl)
   | inr first ↦ inr (Err e, first, (refl, refl))
 ]
 
 -- what was played of the set
-pub performed_of : (failed : Type 0) (t : HostContents) (going : Going) (asked board rows : ℕ) (words : List ℕ) (names : List (List ℕ)) (es : List Edit) (old new : Stage) (result : Result Tape Refusal)
+pub performed_of : (failed : Type 0) (t : HostContents) (going : Going) (asked board : ℕ) (size : Size) (words : List ℕ) (names : List (List ℕ)) (es : List Edit) (old new : Stage) (result : Result Tape Refusal)
     → asked ≡ board → Collects failed t names (Ok es)
-    → MatchResult result (λ tape. PerformsAny (over_edits going es) rows (opened asked es) words old new (Ok (point tape)))
-    (λ e. ((e ≡ Memory) × (new ≡ old)) ⊎ PerformsAny (over_edits going es) rows (opened asked es) words old new (Err e))
-    → MatchResult result (λ tape. IsPerformed failed t going board rows words names old new (Ok (point tape)))
-    (λ e. ((e ≡ Memory) × (new ≡ old)) ⊎ IsPerformed failed t going board rows words names old new (Err e))
-performed_of failed t going asked board rows words names es old new (Ok tape) same all is =
-    (Ok es, all, subst (λ n. PerformsAny (over_edits going es) rows (opened n es) words old new (Ok (point tape))) same is)
-performed_of failed t going asked board rows words names es old new (Err e) same all why = elim why [
+    → MatchResult result (λ tape. PerformsAny (over_edits going es) size (opened asked es) words old new (Ok (point tape)))
+    (λ e. ((e ≡ Memory) × (new ≡ old)) ⊎ PerformsAny (over_edits going es) size (opened asked es) words old new (Err e))
+    → MatchResult result (λ tape. IsPerformed failed t going board size words names old new (Ok (point tape)))
+    (λ e. ((e ≡ Memory) × (new ≡ old)) ⊎ IsPerformed failed t going board size words names old new (Err e))
+performed_of failed t going asked board size words names es old new (Ok tape) same all is =
+    (Ok es, all, subst (λ n. PerformsAny (over_edits going es) size (opened n es) words old new (Ok (point tape))) same is)
+performed_of failed t going asked board size words names es old new (Err e) same all why = elim why [
   | inl memory ↦ inl memory
-  | inr is ↦ inr (Ok es, all, subst (λ n. PerformsAny (over_edits going es) rows (opened n es) words old new (Err e)) same is)
+  | inr is ↦ inr (Ok es, all, subst (λ n. PerformsAny (over_edits going es) size (opened n es) words old new (Err e)) same is)
 ]
 
 -- a refusal that isn't told of the host, as one that may be for want of memory
@@ -83,14 +84,14 @@ or_other (Ok x) other = tt
 or_other (Err e) other = inr other
 
 -- what is so where nothing failed is so where something did
-pub performed_so : (p q : Type 0) (t : HostContents) (going : Going) (board rows : ℕ) (words all : List ℕ) (names : List (List ℕ)) (old first new : Stage) (r : Result Point Refusal)
+pub performed_so : (p q : Type 0) (t : HostContents) (going : Going) (board : ℕ) (size : Size) (words all : List ℕ) (names : List (List ℕ)) (old first new : Stage) (r : Result Point Refusal)
     → (p → q)
-    → words ≡ all → old ≡ first → IsPerformed p t going board rows words names old new r
-    → IsPerformed q t going board rows all names first new r
-performed_so p q t going board rows words all names old first new r so same stage is = (
+    → words ≡ all → old ≡ first → IsPerformed p t going board size words names old new r
+    → IsPerformed q t going board size all names first new r
+performed_so p q t going board size words all names old first new r so same stage is = (
   is.0,
   collected_so p q t names is.0 so is.1,
-  subst (λ ws. PerformsAny (over_set going is.0) rows (opened_in board is.0) ws first new r) same (subst (λ s. PerformsAny (over_set going is.0) rows (opened_in board is.0) words s new r) stage is.2),
+  subst (λ ws. PerformsAny (over_set going is.0) size (opened_in board is.0) ws first new r) same (subst (λ s. PerformsAny (over_set going is.0) size (opened_in board is.0) words s new r) stage is.2),
 )
 
 -- a count that rose has risen, whatever came before and behind

@@ -6,6 +6,7 @@ use Rattle.zed_play.specs.Playtest.{Playtest}
 use Rattle.zed_files.specs.declared.refusal.Refusal.{Refusal}
 use Rattle.zed_files.specs.Collected.{Collects}
 use Rattle.zed_host.specs.HostContents.{HostContents}
+use Rattle.zed_staging.specs.declared.input.Size.{Size}
 use Rattle.zed_turns.specs.declared.error.TurnError.{TurnError}
 use Rattle.zed_turns.specs.Course.{Point}
 use Rattle.zed_turns.specs.Performing.{Performs, at_start}
@@ -15,14 +16,14 @@ use Rattle.zed_playing.specs.Opening.{opened_in, over_edits}
 use Rattle.zed_playing.specs.Refusing.{told_of}
 
 -- what comes of a playtest that is begun with words of chance
-abbrev pub PlaysFrom : Option Contents → ℕ → Playtest → List ℕ → Stage → Stage → Result Point Refusal → Type 0
-PlaysFrom w rows p words old new r =
-    (answer : Result Point TurnError) × Performs w (at_start rows p words) old new answer × (r ≡ told_of answer)
+abbrev pub PlaysFrom : Option Contents → Size → Playtest → List ℕ → Stage → Stage → Result Point Refusal → Type 0
+PlaysFrom w size p words old new r =
+    (answer : Result Point TurnError) × Performs w (at_start size p words) old new answer × (r ≡ told_of answer)
 
 -- the same where it could be begun; or why it couldn't
-abbrev pub PerformsAny : Option Contents → ℕ → Result Playtest Refusal → List ℕ → Stage → Stage → Result Point Refusal → Type 0
-PerformsAny w rows (Ok p) words old new r = PlaysFrom w rows p words old new r
-PerformsAny w rows (Err e) words old new r = (r ≡ Err e) × (new ≡ old)
+abbrev pub PerformsAny : Option Contents → Size → Result Playtest Refusal → List ℕ → Stage → Stage → Result Point Refusal → Type 0
+PerformsAny w size (Ok p) words old new r = PlaysFrom w size p words old new r
+PerformsAny w size (Err e) words old new r = (r ≡ Err e) × (new ≡ old)
 
 -- the world over whose boards a playtest goes on, if a set of edits could be read
 abbrev pub over_set : Going → Result (List Edit) Refusal → Option Contents
@@ -30,6 +31,6 @@ over_set going (Ok es) = over_edits going es
 over_set going (Err e) = None
 
 -- the same of a board of the edits that the files of these names come to
-abbrev pub IsPerformed : Type 0 → HostContents → Going → ℕ → ℕ → List ℕ → List (List ℕ) → Stage → Stage → Result Point Refusal → Type 0
-IsPerformed failed t going board rows words files old new r =
-    (set : Result (List Edit) Refusal) × Collects failed t files set × PerformsAny (over_set going set) rows (opened_in board set) words old new r
+abbrev pub IsPerformed : Type 0 → HostContents → Going → ℕ → Size → List ℕ → List (List ℕ) → Stage → Stage → Result Point Refusal → Type 0
+IsPerformed failed t going board size words files old new r =
+    (set : Result (List Edit) Refusal) × Collects failed t files set × PerformsAny (over_set going set) size (opened_in board set) words old new r

@@ -4,6 +4,7 @@ use Rattle.zed_play.specs.declared.key.Key.{Key}
 use Rattle.zed_files.specs.declared.refusal.Refusal.{Refusal}
 use Rattle.zed_files.specs.declared.refusal.Refusal.TheVariants.{File, Memory}
 use Rattle.zed_host.specs.HostContents.{HalfPrinted, HostContents, StillTells, with_printed}
+use Rattle.zed_staging.specs.declared.input.Size.{Size}
 use Rattle.zed_turns.specs.Course.{Point}
 use Rattle.zed_turns.specs.Record.{keys_in, words_in}
 use Rattle.zed_turns.specs.Report.{report_of}
@@ -13,19 +14,19 @@ use Rattle.zed_playing.specs.Boards.{IsPerformed}
 use Rattle.zed_playing.specs.Kept.{HalfRecorded, kept_in, with_record}
 use Rattle.zed_playing.specs.Led.{Led}
 
--- what is asked to be played: the names of the files that the playtest is kept in, whether it goes on over boards, how many rows the terminal has,
--- the board, and the files of its world
+-- what is asked to be played: the names of the files that the playtest is kept in, whether it goes on over boards, how large the terminal is, the board, and
+-- the files of its world
 pub record Request : Type 0 where
   pub words : Option (List ℕ)
   pub keys : Option (List ℕ)
   pub going : Going
-  pub rows : ℕ
+  pub size : Size
   pub board : ℕ
   pub files : List (List ℕ)
 
 -- this is asked for
-abbrev pub request : Option (List ℕ) → Option (List ℕ) → Going → ℕ → ℕ → List (List ℕ) → Request
-request words keys going rows board files = record { words = words; keys = keys; going = going; rows = rows; board = board; files = files }
+abbrev pub request : Option (List ℕ) → Option (List ℕ) → Going → Size → ℕ → List (List ℕ) → Request
+request words keys going size board files = record { words = words; keys = keys; going = going; size = size; board = board; files = files }
 
 -- a stage where keys come before what is typed
 abbrev pub with_keys : List Key → Stage → Stage
@@ -34,7 +35,7 @@ with_keys keys s = stage s.drawn s.terminal (behind_keys keys s.inputs) None s.c
 -- the board is played by what is kept, and then by what is typed
 abbrev pub IsPlayed : Type 0 → HostContents → Request → Led → Result Point Refusal → Type 0
 IsPlayed failed t q l r =
-    IsPerformed failed t q.going q.board q.rows (words_in (kept_in t q.words)) q.files (with_keys (keys_in (kept_in t q.keys)) l.before) (with_keys l.rest l.behind) r
+    IsPerformed failed t q.going q.board q.size (words_in (kept_in t q.words)) q.files (with_keys (keys_in (kept_in t q.keys)) l.before) (with_keys l.rest l.behind) r
 
 -- what a host holds once a playtest is kept
 abbrev pub kept_after : Request → Led → Point → HostContents → HostContents

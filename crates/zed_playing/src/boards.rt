@@ -19,7 +19,7 @@ use zed_document::Document;
 use zed_files::{Refusal, load};
 use zed_host::Host;
 use zed_play::Play;
-use zed_staging::Inputs;
+use zed_staging::{Inputs, Size};
 use zed_turns::{Atlas, Chance, Tape, Terminal, play_from};
 
 /// Plays a playtest from its beginning.
@@ -28,7 +28,7 @@ fn play_whole<A: Atlas, T: Terminal, I: Inputs, C: Chance>(
     atlas: &A,
     play: Play,
     words: Vec<u16>,
-    rows: usize,
+    size: Size,
     terminal: &mut T,
     inputs: &mut I,
     chance: &mut C,
@@ -40,8 +40,8 @@ fn play_whole<A: Atlas, T: Terminal, I: Inputs, C: Chance>(
         (I.left inputs.new) (I.inputs_foretell inputs.new)
         (chances (C.to_come chance.new) (C.chance_failures chance.new)) in
         MatchResult result
-        (λ tape. PlaysFrom (A.world atlas.now) rows play words.items before after (Ok (point tape)))
-        (λ e. PlaysFrom (A.world atlas.now) rows play words.items before after (Err e)) }
+        (λ tape. PlaysFrom (A.world atlas.now) size play words.items before after (Ok (point tape)))
+        (λ e. PlaysFrom (A.world atlas.now) size play words.items before after (Err e)) }
     ensures key_faults { Counts (is_key_fault result)
         (I.input_failures inputs.old) (I.input_failures inputs.new) }
     ensures screen_faults { Counts (is_screen_fault result)
@@ -49,7 +49,7 @@ fn play_whole<A: Atlas, T: Terminal, I: Inputs, C: Chance>(
     ensures left { T.times_left terminal.new ≡ T.times_left terminal.old }
     ensures other { IfErr result (λ e. e ≢ Refusal.File) }
 {
-    match play_from(alloc, atlas, play, words, rows, terminal, inputs, chance) {
+    match play_from(alloc, atlas, play, words, size, terminal, inputs, chance) {
         Ok(tape) => Ok(tape),
         Err(error) => Err(turn_refusal(error)),
     }
@@ -62,7 +62,7 @@ pub(crate) fn play_board<T: Terminal, I: Inputs, C: Chance>(
     going: Going,
     board: usize,
     words: Vec<u16>,
-    rows: usize,
+    size: Size,
     terminal: &mut T,
     inputs: &mut I,
     chance: &mut C,
@@ -75,10 +75,10 @@ pub(crate) fn play_board<T: Terminal, I: Inputs, C: Chance>(
         (I.left inputs.new) (I.inputs_foretell inputs.new)
         (chances (C.to_come chance.new) (C.chance_failures chance.new)) in
         MatchResult result
-        (λ tape. PerformsAny (over_edits going document.now.edits) rows
+        (λ tape. PerformsAny (over_edits going document.now.edits) size
         (opened board document.now.edits) words.items before after (Ok (point tape)))
         (λ e. ((e ≡ Refusal.Memory) × (after ≡ before))
-        ⊎ PerformsAny (over_edits going document.now.edits) rows
+        ⊎ PerformsAny (over_edits going document.now.edits) size
         (opened board document.now.edits) words.items before after (Err e)) }
     ensures key_faults { Counts (is_key_fault result)
         (I.input_failures inputs.old) (I.input_failures inputs.new) }
@@ -89,10 +89,10 @@ pub(crate) fn play_board<T: Terminal, I: Inputs, C: Chance>(
 {
     let begun = opened(alloc, document, going, board)?;
     let Begun { play, boards } = begun;
-    play_whole(alloc, &boards, play, words, rows, terminal, inputs, chance)
+    play_whole(alloc, &boards, play, words, size, terminal, inputs, chance)
 }
 
-/// Plays a board of the world of edit files in place: draws it on a terminal of so many rows, and
+/// Plays a board of the world of edit files in place: draws it on a terminal of a size, and
 /// then plays turn by turn, with words of chance that came already before those of a source, and
 /// draws each, to the end of the playtest or of what is typed. One that goes on over boards goes on
 /// on each for which the player leaves. Bodies of a board may have 32,767 bytes.
@@ -108,7 +108,7 @@ pub fn perform<H: Host, T: Terminal, I: Inputs, C: Chance>(
     board: u16,
     words: Vec<u16>,
     files: &[&str],
-    rows: usize,
+    size: Size,
     terminal: &mut T,
     inputs: &mut I,
     chance: &mut C,
@@ -122,10 +122,10 @@ pub fn perform<H: Host, T: Terminal, I: Inputs, C: Chance>(
         (I.left inputs.new) (I.inputs_foretell inputs.new)
         (chances (C.to_come chance.new) (C.chance_failures chance.new)) in
         MatchResult result
-        (λ tape. IsPerformed failed t going board rows words.items (texts_of files.now) before after
+        (λ tape. IsPerformed failed t going board size words.items (texts_of files.now) before after
         (Ok (point tape)))
         (λ e. ((e ≡ Refusal.Memory) × (after ≡ before))
-        ⊎ IsPerformed failed t going board rows words.items (texts_of files.now) before after (Err e)) }
+        ⊎ IsPerformed failed t going board size words.items (texts_of files.now) before after (Err e)) }
     ensures kept { H.contents host.new ≡ H.contents host.old }
     ensures key_faults { Counts (is_key_fault result)
         (I.input_failures inputs.old) (I.input_failures inputs.new) }
@@ -142,7 +142,7 @@ pub fn perform<H: Host, T: Terminal, I: Inputs, C: Chance>(
         going,
         usize::from(board),
         words,
-        rows,
+        size,
         terminal,
         inputs,
         chance,

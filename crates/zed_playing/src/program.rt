@@ -18,7 +18,7 @@ use crate::opening::Going;
 use std::alloc::Global;
 use zed_files::{Refusal, print_out};
 use zed_host::Host;
-use zed_staging::Inputs;
+use zed_staging::{Inputs, Size};
 use zed_turns::{Chance, Console, Terminal, report_of};
 
 /// Plays a board and keeps it, as `play` does, on a terminal that isn't left; what is to be told of it.
@@ -28,14 +28,14 @@ fn play_and_keep<H: Host, T: Terminal, I: Inputs, C: Chance>(
     words: Option<&str>,
     keys: Option<&str>,
     going: Going,
-    rows: usize,
+    size: Size,
     board: u16,
     files: &[&str],
     console: &mut Console<T, I, C>,
 ) -> Result<Vec<u8>, Refusal>
     ensures ends { (t : HostContents) → H.contents host.old ≡ Some t
         → let failed = Rose (H.faults host.old) (H.faults host.new) in
-        let asked = request (text_in words.entry) (text_in keys.entry) going rows board (texts_of files.now) in
+        let asked = request (text_in words.entry) (text_in keys.entry) going size board (texts_of files.now) in
         let moved = led (devices T.drawn T.draws_foretell I.left C.to_come C.chance_failures)
         console.old console.new in
         MatchResult result
@@ -63,7 +63,7 @@ fn play_and_keep<H: Host, T: Terminal, I: Inputs, C: Chance>(
         board,
         came,
         files,
-        rows,
+        size,
         &mut console.terminal,
         &mut console.inputs,
         &mut console.chance,
@@ -89,14 +89,14 @@ pub fn play<H: Host, T: Terminal, I: Inputs, C: Chance>(
     words: Option<&str>,
     keys: Option<&str>,
     going: Going,
-    rows: usize,
+    size: Size,
     board: u16,
     files: &[&str],
     console: &mut Console<T, I, C>,
 ) -> Result<(), Refusal>
     ensures ends { (t : HostContents) → H.contents host.old ≡ Some t
         → EndsPlay (Rose (H.faults host.old) (H.faults host.new)) t
-        (request (text_in words.entry) (text_in keys.entry) going rows board (texts_of files.now))
+        (request (text_in words.entry) (text_in keys.entry) going size board (texts_of files.now))
         (led (devices T.drawn T.draws_foretell I.left C.to_come C.chance_failures)
         console.old console.new)
         result (H.contents host.new) }
@@ -112,7 +112,7 @@ pub fn play<H: Host, T: Terminal, I: Inputs, C: Chance>(
         (T.draw_failures console.old.terminal) (T.draw_failures console.new.terminal) }
     ensures failures { TellsFailures H.faults H.failed result host.old host.new }
 {
-    let told = play_and_keep(alloc, host, words, keys, going, rows, board, files, console);
+    let told = play_and_keep(alloc, host, words, keys, going, size, board, files, console);
     console.terminal.leave();
     let text = told?;
     print_out(host, text.as_slice())

@@ -13,4 +13,5 @@ pub use drawing::{draw_board, draw_play};
 pub use error::ScreenError;
 pub use frame::{Cell, Frame};
 pub use laws::playtest_shows_its_board;
+pub use panel::play_cell;
 pub use text::ascii;

@@ -91,9 +91,10 @@ fn value_of(row: u16, play: &Play) -> i32
     }
 }
 
-/// The place `k` of the screen, counted row by row.
+/// What the picture of a playtest shows in the place `k` of the screen, counted row by row from 0: the
+/// whole picture is `draw_play`.
 #[tactic(auto, unfolding(crate::specs::Panel::play_cell))]
-pub(crate) fn play_cell(play: &Play, k: u16) -> Cell
+pub fn play_cell(play: &Play, k: u16) -> Cell
     requires { k < 2000 }
     ensures { result ≡ play_cell play.now k }
 {

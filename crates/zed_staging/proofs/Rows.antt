@@ -6,11 +6,8 @@ use Rattle.std.proofs.lemmas.List.{flat_map_more}
 use Rattle.std.proofs.lemmas.List.FromFn.{map-range_with_len_more}
 use Rattle.std.proofs.lemmas.Option.{get_or_from_slice_get, slice_get_within}
 use Rattle.zed_play.specs.Playtest.{Playtest}
-use Rattle.zed_screen.specs.declared.frame.Frame.{Frame}
-use Rattle.zed_screen.specs.Frames.{Shows}
-use Rattle.zed_screen.specs.Panel.{play_cell}
 use Rattle.zed_look.specs.declared.look.Spot.{Spot}
-use Rattle.zed_staging.specs.Staged.{cell_of, message_line, spot_beside, spot_of}
+use Rattle.zed_staging.specs.Staged.{message_line, spot_beside}
 
 range_more : (a n : ℕ) → range_with_len a (suc n) ≡ range_with_len a n ++ (a + n) ∷ []
 range_more a zero = ap (λ x. x ∷ []) (omega arith)
@@ -30,15 +27,6 @@ row_more f first row o p q from e g =
     ap (range_with_len first) next ∙ range_more first (row - first) ∙ ap (λ x. before ++ x ∷ []) here in
     g ∙ ap (λ t. t ++ f row) e ∙ flat_map_more f o before row ∙ ap (λ r. o ++ flat_map f r) (sym more)
 
--- what a frame of a playtest shows beside the board
-pub beside_at : (p : Playtest) (frame : Frame) (row column : ℕ) (spot : Spot) → Shows frame (play_cell p) → 80 * row + column < 2000
-    → slice_get frame.cells (80 * row + column) ≡ Some (cell_of spot)
-    → spot ≡ spot_beside p row column
-beside_at p frame row column spot shows below there =
-    let told : slice_get frame.cells (80 * row + column) ≡ Some (play_cell p (80 * row + column)) = shows (80 * row + column) below in
-    let same : cell_of spot ≡ play_cell p (80 * row + column) = cc in
-    ap spot_of same
-
 -- one column more
 pub column_more : (p : Playtest) (row k : ℕ) (before after done : List Spot) (spot : Spot) → 60 ≤ k → spot ≡ spot_beside p row k
     → done ≡ before ++ map (spot_beside p row) (range_with_len 60 (k - 60))
@@ -52,16 +40,19 @@ column_more p row k before after done spot from is e g =
     ∙ ap (λ n. before ++ map (spot_beside p row) (range_with_len 60 n)) next
 
 -- the lines from a message on are its own and those behind it
-next_message : (ms : List (List ℕ)) (i : ℕ) (m : List ℕ) → slice_get ms i ≡ Some m
-    → flat_map message_line (drop i ms) ≡ message_line m ++ flat_map message_line (drop (i + 1) ms)
-next_message ms i m is =
+next_message : (columns : ℕ) (ms : List (List ℕ)) (i : ℕ) (m : List ℕ) → slice_get ms i ≡ Some m
+    → flat_map (message_line columns) (drop i ms) ≡ message_line columns m ++ flat_map (message_line columns) (drop (i + 1) ms)
+next_message columns ms i m is =
     let here : drop i ms ≡ m ∷ drop (suc i) ms =
     drop-cons ms i m (slice_get_within ms i m is) ∙ ap (λ x. x ∷ drop (suc i) ms) (get_or_from_slice_get ms i m m is) in
     let same : suc i ≡ i + 1 = omega arith in
-    ap (flat_map message_line) here ∙ ap (λ n. message_line m ++ flat_map message_line (drop n ms)) same
+    ap (flat_map (message_line columns)) here ∙ ap (λ n. message_line columns m ++ flat_map (message_line columns) (drop n ms)) same
 
 -- and so with what was told before
-pub told_more : (ms : List (List ℕ)) (i : ℕ) (m before after : List ℕ) → slice_get ms i ≡ Some m → after ≡ before ++ message_line m
-    → after ++ flat_map message_line (drop (i + 1) ms) ≡ before ++ flat_map message_line (drop i ms)
-told_more ms i m before after is e =
-    ap (λ t. t ++ flat_map message_line (drop (i + 1) ms)) e ∙ append_assoc before (message_line m) (flat_map message_line (drop (i + 1) ms)) ∙ ap (λ l. before ++ l) (sym (next_message ms i m is))
+pub told_more : (columns : ℕ) (ms : List (List ℕ)) (i : ℕ) (m before after : List ℕ) → slice_get ms i ≡ Some m
+    → after ≡ before ++ message_line columns m
+    → after ++ flat_map (message_line columns) (drop (i + 1) ms) ≡ before ++ flat_map (message_line columns) (drop i ms)
+told_more columns ms i m before after is e =
+    let lines = flat_map (message_line columns) in
+    ap (λ t. t ++ lines (drop (i + 1) ms)) e ∙ append_assoc before (message_line columns m) (lines (drop (i + 1) ms))
+    ∙ ap (λ l. before ++ l) (sym (next_message columns ms i m is))

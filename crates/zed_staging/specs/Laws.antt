@@ -5,7 +5,7 @@ use Rattle.zed_play.specs.declared.key.Key.{Key}
 use Rattle.zed_play.specs.declared.key.Key.TheVariants.{Wait, North, South, West, East, ShootNorth, ShootSouth, ShootWest, ShootEast}
 use Rattle.zed_staging.specs.declared.input.Input.TheVariants.{Pressed, Resized}
 use Rattle.zed_staging.specs.declared.typing.Reading.TheVariants.{Between}
-use Rattle.zed_staging.specs.Typing.{inputs_in, is_digit, longer}
+use Rattle.zed_staging.specs.Typing.{inputs_in, is_digit, longer, sized}
 
 -- these bytes in front of others are this key
 abbrev pub IsKey : (List ℕ → List ℕ) → Key → Type 0
@@ -40,4 +40,4 @@ number_of n (digit ∷ digits) = number_of (longer n digit) digits
 abbrev pub SizesAreTold : Type 0
 SizesAreTold =
     (rows columns bytes : List ℕ) → list_all is_digit rows ≡ true → list_all is_digit columns ≡ true →
-    inputs_in Between (27 ∷ 91 ∷ 56 ∷ 59 ∷ (rows ++ (59 ∷ (columns ++ (116 ∷ bytes))))) ≡ Resized (number_of 0 rows) ∷ inputs_in Between bytes
+    inputs_in Between (27 ∷ 91 ∷ 56 ∷ 59 ∷ (rows ++ (59 ∷ (columns ++ (116 ∷ bytes))))) ≡ Resized (sized (number_of 0 rows) (number_of 0 columns)) ∷ inputs_in Between bytes

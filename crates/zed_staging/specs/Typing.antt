@@ -3,10 +3,15 @@ use Rattle.std.specs.Prelude.{ℕ, ◌+◌, ◌-◌, ◌*◌, Bool, ◌&&◌, �
 use Rattle.zed_play.specs.declared.key.Key.{Key}
 use Rattle.zed_play.specs.declared.key.Key.TheVariants.{Wait, North, South, West, East, ShootNorth, ShootSouth, ShootWest, ShootEast}
 use Rattle.zed_staging.specs.declared.input.Input.{Input}
+use Rattle.zed_staging.specs.declared.input.Size.{Size as TheSize}
 use Rattle.zed_staging.specs.declared.input.Input.TheVariants.{Pressed, Resized}
 use Rattle.zed_staging.specs.declared.typing.Reading.{Reading}
 use Rattle.zed_staging.specs.declared.typing.Reading.TheVariants.{Between, Escape, Arrow, Modifier, Shifted, Size, Rows, Columns, Over}
 use Rattle.zed_staging.specs.declared.typing.Stroke.{Stroke}
+
+-- a size of so many rows and columns
+abbrev pub sized : ℕ → ℕ → TheSize
+sized rows columns = record { rows = rows; columns = columns }
 
 -- the key of a letter with shift: A to D, or a to d
 abbrev pub shot : ℕ → Option Key
@@ -53,29 +58,30 @@ is_digit b = nat_le 48 b && nat_le b 57
 abbrev pub numbers : ℕ → Option Key → Stroke
 numbers b key = if b == 59 then on Modifier else if is_digit b then on Arrow else ends key
 
--- a number of rows with one digit more; one of more than four digits stays
+-- a number with one digit more; one of four digits stays
 abbrev pub longer : ℕ → ℕ → ℕ
-longer rows b = if nat_lt rows 1000 then 10 * rows + (b - 48) else rows
+longer n b = if nat_lt n 1000 then 10 * n + (b - 48) else n
 
 -- behind the rows of a size comes a digit more, or `;` (59) and its columns
 abbrev pub rows_on : ℕ → ℕ → Stroke
-rows_on rows b = if b == 59 then on (Columns rows) else if is_digit b then on (Rows (longer rows b)) else completes None
+rows_on rows b = if b == 59 then on (Columns rows 0) else if is_digit b then on (Rows (longer rows b)) else completes None
 
 -- behind its columns comes a digit more, or `t` (116)
-abbrev pub columns_on : ℕ → ℕ → Stroke
-columns_on rows b = if is_digit b then on (Columns rows) else if b == 116 then completes (Some (Resized rows)) else completes None
+abbrev pub columns_on : ℕ → ℕ → ℕ → Stroke
+columns_on rows columns b =
+    if is_digit b then on (Columns rows (longer columns b)) else if b == 116 then completes (Some (Resized (sized rows columns))) else completes None
 
--- a byte that isn't escape: behind that come `[` (91) or `O` (79), numbers, and a letter. The number 2 (50) behind `;` tells of shift, and 8 (56) in front
+-- a byte that isn't escape: behind that come `[` (91) or `O` (79), numbers, and a letter; another byte behind it means what it means by itself. The number 2 (50) behind `;` tells of shift, and 8 (56) in front
 -- of it of a size
 abbrev pub inside : Reading → ℕ → Stroke
 inside Between b = plain b
-inside Escape b = if b == 91 || b == 79 then on Arrow else on Between
+inside Escape b = if b == 91 || b == 79 then on Arrow else plain b
 inside Arrow b = if b == 56 then on Size else numbers b (arrow b)
 inside Modifier b = if b == 50 then on Shifted else numbers b (arrow b)
 inside Shifted b = numbers b (shot b)
 inside Size b = if b == 59 then on (Rows 0) else numbers b (arrow b)
 inside (Rows rows) b = rows_on rows b
-inside (Columns rows) b = columns_on rows b
+inside (Columns rows columns) b = columns_on rows columns b
 inside Over b = on Over
 
 -- any byte: escape (27) begins anew
@@ -91,7 +97,7 @@ typed Modifier b = escaped b (inside Modifier b)
 typed Shifted b = escaped b (inside Shifted b)
 typed Size b = escaped b (inside Size b)
 typed (Rows rows) b = escaped b (inside (Rows rows) b)
-typed (Columns rows) b = escaped b (inside (Columns rows) b)
+typed (Columns rows columns) b = escaped b (inside (Columns rows columns) b)
 typed Over b = on Over
 
 -- one thing, if there is one, and others

@@ -9,13 +9,21 @@ use zed_play::Key;
 #[derive(Clone, Copy, PartialEq, Eq)]
 pub struct DeviceFailed;
 
+/// How large a terminal is.
+#[derive(Clone, Copy, PartialEq, Eq)]
+pub struct Size {
+    pub rows: u16,
+    /// 0 where that isn't told.
+    pub columns: u16,
+}
+
 /// What one does who plays at a terminal.
 #[derive(Clone, Copy, PartialEq, Eq)]
 pub enum Input {
     /// Presses a key.
     Pressed(Key),
-    /// Gives the terminal another size: so many rows.
-    Resized(u16),
+    /// Gives the terminal another size.
+    Resized(Size),
 }
 
 /// A source of what is done, one thing after the other.

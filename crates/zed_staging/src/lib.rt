@@ -7,7 +7,7 @@ mod stage;
 mod typing;
 mod typist;
 
-pub use input::{DeviceFailed, Input, Inputs};
+pub use input::{DeviceFailed, Input, Inputs, Size};
 pub use laws::{arrows_are_keys, letters_are_keys, sizes_are_told};
 pub use stage::staged;
 pub use typing::{Reading, Stroke, typed};

@@ -2,7 +2,7 @@
 ghost use Rattle.std.specs.Prelude.{◌≡◌, ◌≤◌};
 ghost use Rattle.zed_staging.specs.Typing.{arrow, columns_on, completes, ends, inside, is_digit, letter, longer, numbers, on, plain, rows_on, shot, typed};
 
-use crate::input::Input;
+use crate::input::{Input, Size};
 use zed_play::Key;
 
 /// How far the bytes of a key or of a size were read.
@@ -22,8 +22,8 @@ pub enum Reading {
     Size,
     /// Within the number of its rows, which is this so far.
     Rows(u16),
-    /// Within the number of its columns, behind so many rows.
-    Columns(u16),
+    /// Within the number of its columns, which is the second so far, behind so many rows.
+    Columns(u16, u16),
     /// Behind `q`, or control with C or D: no more keys come.
     Over,
 }
@@ -134,15 +134,15 @@ fn numbers(byte: u8, key: Option<Key>) -> Stroke
     }
 }
 
-/// A number of rows with one digit more.
-fn longer(rows: u16, digit: u8) -> u16
+/// A number with one digit more.
+fn longer(number: u16, digit: u8) -> u16
     requires { 48 ≤ digit }
-    ensures { result ≡ longer rows digit }
+    ensures { result ≡ longer number digit }
 {
-    if rows < 1000 {
-        10 * rows + u16::from(digit - 48)
+    if number < 1000 {
+        10 * number + u16::from(digit - 48)
     } else {
-        rows
+        number
     }
 }
 
@@ -151,7 +151,7 @@ fn rows_on(rows: u16, byte: u8) -> Stroke
     ensures { result ≡ rows_on rows byte }
 {
     if byte == b';' {
-        on(Reading::Columns(rows))
+        on(Reading::Columns(rows, 0))
     } else if is_digit(byte) {
         on(Reading::Rows(longer(rows, byte)))
     } else {
@@ -160,13 +160,13 @@ fn rows_on(rows: u16, byte: u8) -> Stroke
 }
 
 /// A byte behind its columns.
-fn columns_on(rows: u16, byte: u8) -> Stroke
-    ensures { result ≡ columns_on rows byte }
+fn columns_on(rows: u16, columns: u16, byte: u8) -> Stroke
+    ensures { result ≡ columns_on rows columns byte }
 {
     if is_digit(byte) {
-        on(Reading::Columns(rows))
+        on(Reading::Columns(rows, longer(columns, byte)))
     } else if byte == b't' {
-        completes(Some(Input::Resized(rows)))
+        completes(Some(Input::Resized(Size { rows, columns })))
     } else {
         completes(None)
     }
@@ -179,7 +179,8 @@ fn inside(reading: Reading, byte: u8) -> Stroke
     match reading {
         Reading::Between => plain(byte),
         Reading::Escape if byte == b'[' || byte == b'O' => on(Reading::Arrow),
-        Reading::Escape => on(Reading::Between),
+        // the escape was a key of its own, which means nothing
+        Reading::Escape => plain(byte),
         Reading::Arrow if byte == b'8' => on(Reading::Size),
         Reading::Arrow => numbers(byte, arrow(byte)),
         Reading::Modifier if byte == b'2' => on(Reading::Shifted),
@@ -188,7 +189,7 @@ fn inside(reading: Reading, byte: u8) -> Stroke
         Reading::Size if byte == b';' => on(Reading::Rows(0)),
         Reading::Size => numbers(byte, arrow(byte)),
         Reading::Rows(rows) => rows_on(rows, byte),
-        Reading::Columns(rows) => columns_on(rows, byte),
+        Reading::Columns(rows, columns) => columns_on(rows, columns, byte),
         Reading::Over => on(Reading::Over),
     }
 }

@@ -41,7 +41,7 @@ use Rattle.zed_tool_words.specs.Version.{version_text}
 use Rattle.zed_tool_words.specs.Commands.{AsksHelp, AsksVersion, Command, Open, Take, Log, Lists, Show, Play, Lint, Set, ProgramOf, SetProgram, command_of, subcommand_asks, unless_refused}
 use Rattle.zed_tool.specs.Answers.{Answer, Failure, Refused, drawing_failure, drawn_as, lint_status, linted_as, memory, told_as, wrong_word}
 use Rattle.zed_tool.specs.Calm.{ComesTo, ComesToSetting, Ending, EndsCalmly, Leaves, left_by, lint_left, play_left, told_left}
-use Rattle.zed_tool.specs.Commands.{AsksCommand, AsksSet, EndsCommand, EndsSet, filter_of, forcing_of, form_of, going_of, length_of, listing_of, rows_of}
+use Rattle.zed_tool.specs.Commands.{AsksCommand, AsksSet, EndsCommand, EndsSet, filter_of, forcing_of, form_of, going_of, length_of, listing_of, size_of}
 use Rattle.zed_tool.specs.Lines.{line_of}
 use Rattle.zed_tool.specs.Outcome.{Complained, Hosts, IsComplained, IsLineOf, Prints as PrintsText, Runs, RunsAs, TellsAloud}
 use Rattle.zed_tool.proofs.Steps.{open_so, set_program_so, set_so, show_so, take_so, tell_so}
@@ -228,7 +228,7 @@ done called p moved (Show form board files) old new t status left never is =
     told_done p (ComesToShow p t (form_of form) board files) (ComesToShow ⊥ t (form_of form) board files) t is.0 status left
     (λ x. show_so p ⊥ t (form_of form) board files x never) is.1 is.2
 done called p moved (Play going rows words keys board files) old new t status left never is =
-    play_done p t (request words keys (going_of going) (rows_of rows) board files) moved is.0 status left never is.1 is.2
+    play_done p t (request words keys (going_of going) (size_of rows) board files) moved is.0 status left never is.1 is.2
 done called p moved (Lint strictness files) old new t status left never is =
     lint_done strictness p (ComesToTell p t lint_of files) (ComesToTell ⊥ t lint_of files) t is.0 status left (λ x. tell_so p ⊥ t lint_of files x never) is.1 is.2
 done called p moved (Set file replica words) old new t status left never is =
@@ -259,7 +259,7 @@ stopped called p moved (Show form board files) old new t e left never is =
     told_stopped p (ComesToShow p t (form_of form) board files) (ComesToShow ⊥ t (form_of form) board files) t is.0 e left
     (λ x. show_so p ⊥ t (form_of form) board files x never) never is.1 is.2
 stopped called p moved (Play going rows words keys board files) old new t e left never is =
-    play_stopped p t (request words keys (going_of going) (rows_of rows) board files) moved is.0 e left never is.1 is.2
+    play_stopped p t (request words keys (going_of going) (size_of rows) board files) moved is.0 e left never is.1 is.2
 stopped called p moved (Lint strictness files) old new t e left never is =
     lint_stopped strictness p (ComesToTell p t lint_of files) (ComesToTell ⊥ t lint_of files) t is.0 e left (λ x. tell_so p ⊥ t lint_of files x never) never is.1 is.2
 stopped called p moved (Set file replica words) old new t e left never is =

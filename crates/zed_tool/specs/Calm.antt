@@ -25,7 +25,7 @@ use Rattle.zed_drawing.specs.Taking.{ComesToTake}
 use Rattle.zed_tool_words.specs.declared.asked.Strictness.{Strictness}
 use Rattle.zed_tool_words.specs.Commands.{Command, Open, Take, Log, Lists, Show, Play, Lint, Set, ProgramOf, SetProgram}
 use Rattle.zed_tool.specs.Answers.{Failure, Refused, drawing_failure, lint_status, memory, wrong_word}
-use Rattle.zed_tool.specs.Commands.{filter_of, forcing_of, form_of, going_of, length_of, listing_of, rows_of}
+use Rattle.zed_tool.specs.Commands.{filter_of, forcing_of, form_of, going_of, length_of, listing_of, size_of}
 use Rattle.zed_tool.specs.Lines.{line_of}
 
 -- a status with what the host holds then, or why the command was not carried out
@@ -77,7 +77,7 @@ ComesTo failed t moved (Lists listing files) ending =
     Leaves (told_left t) (ComesToTell failed t (list_of (listing_of listing)) files) ending
 ComesTo failed t moved (Show form board files) ending = Leaves (told_left t) (ComesToShow failed t (form_of form) board files) ending
 ComesTo failed t moved (Play going rows words keys board files) ending =
-    let q = request words keys (going_of going) (rows_of rows) board files in
+    let q = request words keys (going_of going) (size_of rows) board files in
     Leaves (play_left t q moved) (IsPlayed failed t q moved) ending
 ComesTo failed t moved (Lint strictness files) ending = Leaves (lint_left strictness t) (ComesToTell failed t lint_of files) ending
 ComesTo failed t moved (Set file replica words) ending = ComesToSetting failed t file replica words (wish_of words) ending

@@ -12,6 +12,7 @@ use Rattle.zed_tool_words.specs.declared.asked.Forcing.{Forcing as ForcingWord}
 use Rattle.zed_tool_words.specs.declared.asked.Forcing.TheVariants.{Careful, Forced}
 use Rattle.zed_tool_words.specs.declared.asked.Form.{Form as FormWord}
 use Rattle.zed_tool_words.specs.declared.asked.Form.TheVariants.{Coloured, Plain, Svg}
+use Rattle.zed_staging.specs.declared.input.Size.{Size}
 use Rattle.zed_playing.specs.declared.opening.Going.{Going}
 use Rattle.zed_playing.specs.declared.opening.Going.TheVariants as playing
 use Rattle.zed_tool_words.specs.declared.asked.Going.{Going as GoingWord}
@@ -21,7 +22,7 @@ use Rattle.zed_tool_words.specs.declared.asked.Length.TheVariants.{Short, Full}
 use Rattle.zed_tool_words.specs.declared.asked.Listing.{Listing as ListingWords}
 use Rattle.zed_tool_words.specs.declared.asked.Listing.TheVariants.{Boards, Stats, Program}
 use Rattle.zed_tool_words.specs.Commands.{Command, Open, Take, Log, Lists, Show, Play, Lint, Set, ProgramOf, SetProgram}
-use Rattle.std.specs.Prelude.{◌≡◌, ℕ, Bool, true, false, List, [], ◌∷◌, ◌++◌, Option, Some, None, Result, Ok, Err}
+use Rattle.std.specs.Prelude.{◌≡◌, unwrap_or, ℕ, Bool, true, false, List, [], ◌∷◌, ◌++◌, Option, Some, None, Result, Ok, Err}
 use Rattle.zed_host.specs.Calls.{Call, Printing}
 use Rattle.zed_host.specs.HostContents.{HostContents}
 use Rattle.zed_files.specs.declared.refusal.Refusal.{Refusal}
@@ -77,10 +78,9 @@ form_of Coloured = look.Coloured
 form_of Plain = look.Plain
 form_of Svg = look.Svg
 
--- how many rows a terminal has, 27 if that isn't told
-abbrev pub rows_of : Option ℕ → ℕ
-rows_of (Some rows) = rows
-rows_of None = 27
+-- how large a terminal is: so many rows, or 27 if that isn't told; it tells its columns itself
+abbrev pub size_of : Option ℕ → Size
+size_of rows = record { rows = unwrap_or rows 27; columns = 0 }
 
 -- whether a command plays a board
 abbrev pub is_playtest : Command → Bool
@@ -133,7 +133,7 @@ EndsCommand called failed moved (Lists listing files) old new t answer left =
 EndsCommand called failed moved (Show form board files) old new t answer left =
     EndsTold failed (ComesToShow failed t (form_of form) board files) t answer left
 EndsCommand called failed moved (Play going rows words keys board files) old new t answer left =
-    Handed told_as (λ r. EndsPlay failed t (request words keys (going_of going) (rows_of rows) board files) moved r left) answer
+    Handed told_as (λ r. EndsPlay failed t (request words keys (going_of going) (size_of rows) board files) moved r left) answer
 EndsCommand called failed moved (Lint strictness files) old new t answer left =
     Handed (linted_as strictness) (λ r. EndsCounted failed (ComesToTell failed t lint_of files) t r left) answer
 EndsCommand called failed moved (Set file replica words) old new t answer left =

@@ -1,10 +1,11 @@
 //! What words ask for, as the commands take it.
 ghost use Rattle.std.specs.Prelude.{◌≡◌};
-ghost use Rattle.zed_tool.specs.Commands.{forcing_of as forcing_for, form_of as form_for, going_of as going_for, length_of as length_for, listing_of as listing_for, rows_of as rows_for};
+ghost use Rattle.zed_tool.specs.Commands.{forcing_of as forcing_for, form_of as form_for, going_of as going_for, length_of as length_for, listing_of as listing_for, size_of as size_for};
 
 use zed_drawing::Forcing;
 use zed_look::Form;
 use zed_playing::Going;
+use zed_staging::Size;
 use zed_telling::{Length, Listing};
 
 /// What is done to a world file that was drawn in.
@@ -38,13 +39,13 @@ pub(crate) fn length_of(length: zed_tool_words::Length) -> Length
     }
 }
 
-/// How many rows a terminal has.
-pub(crate) fn rows_of(rows: Option<u16>) -> usize
-    ensures { result ≡ rows_for rows }
+/// How large a terminal is, as far as it is told before it tells itself.
+pub(crate) fn size_of(rows: Option<u16>) -> Size
+    ensures { result ≡ size_for rows }
 {
-    match rows {
-        Some(rows) => usize::from(rows),
-        None => 27,
+    Size {
+        rows: rows.unwrap_or(27),
+        columns: 0,
     }
 }
 

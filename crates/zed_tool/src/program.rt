@@ -17,7 +17,7 @@ ghost use Rattle.zed_tool.specs.Taking.{AsksToTake, TakesSet};
 ghost use Rattle.zed_tool.specs.Outcome.{Complained, Prints, Runs, TellsAloud, TellsFailures, TellsOf, hosts};
 
 use crate::answers::{drawn, linted, set_told, told};
-use crate::asked::{forcing_of, form_of, going_of, length_of, listing_of, rows_of};
+use crate::asked::{forcing_of, form_of, going_of, length_of, listing_of, size_of};
 use crate::error::ToolError;
 use crate::lines::{line_of, plain_line};
 use std::alloc::Global;
@@ -138,7 +138,7 @@ fn act<'a, H: Host, T: Terminal, I: Inputs, C: Chance>(
             *words,
             *keys,
             going_of(*going),
-            rows_of(*rows),
+            size_of(*rows),
             *board,
             files.as_slice(),
             console,

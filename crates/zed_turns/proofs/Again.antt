@@ -62,7 +62,7 @@ kept_on w (Pressed key) a next b chance chance_then (mid, supplied, play, left, 
     let later : Comes w (led_on w key a.play mid.play) keys (next.left ++ more) b.play b.left =
     subst (λ p. Comes w p keys (next.left ++ more) b.play b.left) play comes in
     (key ∷ keys, came ++ more, all_keys, all_words, comes_on w makes.0 key a.play mid.play b.play keys a.left came more b.left next.left makes.1 (left ∙ makes.2) later)
-kept_on w (Resized rows) a next b chance chance_then (same, still) kept = subst (λ p. Kept w p b) same kept
+kept_on w (Resized size) a next b chance chance_then (same, still) kept = subst (λ p. Kept w p b) same kept
 
 pub plays_again : PlaysAgain
 plays_again w zero c d is =

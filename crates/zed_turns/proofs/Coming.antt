@@ -3,6 +3,7 @@ use Rattle.std.proofs.Common.{◌≡◌, ◌∙◌, ℕ, List, Option, Result, O
 use Rattle.std.specs.Prelude.{⊤}
 use Rattle.zed_world.specs.Contents.{Contents}
 use Rattle.zed_play.specs.Playtest.{Playtest}
+use Rattle.zed_staging.specs.declared.input.Size.{Size}
 use Rattle.zed_turns.specs.declared.error.TurnError.{TurnError}
 use Rattle.zed_turns.specs.Again.{Comes}
 use Rattle.zed_turns.specs.Course.{Course, Plays, PlaysOn, Point, course}
@@ -14,19 +15,19 @@ use Rattle.zed_turns.proofs.Again.{plays_again}
 abbrev pub ComesTo : Option Contents → Playtest → Point → Type 0
 ComesTo w p at = Comes w p at.keys at.words at.play at.left
 
-came_to : (w : Option Contents) (n rows : ℕ) (p : Playtest) (words : List ℕ) (s : Stage) (c : Course)
-    → Plays w n (course (at_start rows p words) s) c
+came_to : (w : Option Contents) (n : ℕ) (size : Size) (p : Playtest) (words : List ℕ) (s : Stage) (c : Course)
+    → Plays w n (course (at_start size p words) s) c
     → ComesTo w p c.at
-came_to w n rows p words s c plays =
-    let again = plays_again w n (course (at_start rows p words) s) c plays in
+came_to w n size p words s c plays =
+    let again = plays_again w n (course (at_start size p words) s) c plays in
     subst (λ keys. Comes w p keys c.at.words c.at.play c.at.left) (sym again.2) (subst (λ all. Comes w p again.0 all c.at.play c.at.left) (sym again.3) again.4)
 
-played_again : (w : Option Contents) (told : Result ⊤ TurnError) (rows : ℕ) (p : Playtest) (words : List ℕ) (s new : Stage) (at last : Point)
-    → PlaysOn w (course (at_start rows p words) s) (course at new) told → Ok last ≡ played_to told at → ComesTo w p last
-played_again w (Err e) rows p words s new at last on is = absurd (cc)
-played_again w (Ok u) rows p words s new at last (n, c, few, plays, ends) is =
+played_again : (w : Option Contents) (told : Result ⊤ TurnError) (size : Size) (p : Playtest) (words : List ℕ) (s new : Stage) (at last : Point)
+    → PlaysOn w (course (at_start size p words) s) (course at new) told → Ok last ≡ played_to told at → ComesTo w p last
+played_again w (Err e) size p words s new at last on is = absurd (cc)
+played_again w (Ok u) size p words s new at last (n, c, few, plays, ends) is =
     let here : last ≡ at = cc in
-    let there = came_to w n rows p words s c plays in
+    let there = came_to w n size p words s c plays in
     let at_end : at ≡ c.at = elim ends [
       | inl over ↦ ap (λ (x : Course). x.at) over.2
       | inr more ↦ elim more [
@@ -40,8 +41,8 @@ played_again w (Ok u) rows p words s new at last (n, c, few, plays, ends) is =
     subst (λ x. ComesTo w p x) (sym (here ∙ at_end)) there
 
 pub performances_come_again : PerformancesComeAgain
-performances_come_again w rows p words old new last performs = elim performs [
-  | inl played ↦ played_again w played.3 rows p words _ new played.2 last played.5 played.6
+performances_come_again w size p words old new last performs = elim performs [
+  | inl played ↦ played_again w played.3 size p words _ new played.2 last played.5 played.6
   | inr more ↦ elim more [
     | inl fault ↦ absurd (let no = fault.0 in cc)
     | inr memory ↦ absurd (let no = memory.0 in cc)

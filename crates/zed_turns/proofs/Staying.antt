@@ -33,11 +33,11 @@ on_still w way (Some Failed) p still = refl
 
 answers_still : (w : Option Contents) (input : Input) (a b : Point) (chance chance_then : Chances) → IsStill b.play
     → Answers None input a chance b chance_then → Answers w input a chance b chance_then
-answers_still w (Pressed key) a b chance chance_then still (mid, supplied, play, left, words, keys, rows) =
+answers_still w (Pressed key) a b chance chance_then still (mid, supplied, play, left, words, keys, size) =
     let same : b.play ≡ mid.play = play ∙ on_none (way_of key a.play) mid.play.ending mid.play in
     let there : IsStill mid.play = subst IsStill same still in
-    (mid, supplied, same ∙ sym (on_still w (way_of key a.play) mid.play.ending mid.play there), left, words, keys, rows)
-answers_still w (Resized rows) a b chance chance_then still is = is
+    (mid, supplied, same ∙ sym (on_still w (way_of key a.play) mid.play.ending mid.play there), left, words, keys, size)
+answers_still w (Resized size) a b chance chance_then still is = is
 
 advances_still : (w : Option Contents) (failing : Bool) (c d : Course) → IsStill d.at.play → Advances None failing c d
     → Advances w failing c d

@@ -10,6 +10,7 @@ use Rattle.zed_play.specs.Entering.{entered, way_of}
 use Rattle.zed_play.specs.Playtest.{Playtest}
 use Rattle.zed_play.specs.Step.{Steps}
 use Rattle.zed_staging.specs.declared.input.Input.{Input}
+use Rattle.zed_staging.specs.declared.input.Size.{Size}
 use Rattle.zed_staging.specs.declared.input.Input.TheVariants.{Pressed, Resized}
 use Rattle.zed_staging.specs.Staged.{stage_text}
 use Rattle.zed_turns.specs.declared.error.TurnError.{TurnError}
@@ -18,17 +19,17 @@ use Rattle.zed_turns.specs.declared.tape.Tape.{Tape}
 use Rattle.zed_turns.specs.Devices.{Chances, GivesOut, Supplies}
 use Rattle.zed_turns.specs.Stage.{Draws, DrawsNothing, LacksKey, Stage, TakesInput}
 
--- where a playtest has come to: by which keys, with which words of chance that came, and which of them are left; and how many rows its terminal has
+-- where a playtest has come to: by which keys, with which words of chance that came, and which of them are left; and how large its terminal is
 pub record Point : Type 0 where
   pub play : Playtest
   pub keys : List Key
   pub words : List ℕ
   pub left : List ℕ
-  pub rows : ℕ
+  pub size : Size
 
 -- where a tape is at
 abbrev pub point : Tape → Point
-point t = record { play = t.play; keys = t.keys.items; words = t.words.items; left = drop t.used t.words.items; rows = t.rows }
+point t = record { play = t.play; keys = t.keys.items; words = t.words.items; left = drop t.used t.words.items; size = t.size }
 
 -- the same, and what the devices tell then
 pub record Course : Type 0 where
@@ -100,24 +101,24 @@ abbrev pub PlaysKey : Option Contents → Key → Point → Chances → Point �
 PlaysKey w key a chance b chance_then =
     (mid : Point)
     × IsSupplied key a chance mid chance_then × (b.play ≡ led_on w key a.play mid.play) × (b.left ≡ mid.left) × (b.words ≡ mid.words)
-    × (b.keys ≡ a.keys ++ key ∷ []) × (b.rows ≡ a.rows)
+    × (b.keys ≡ a.keys ++ key ∷ []) × (b.size ≡ a.size)
 
 -- what is done is answered: a key is played, and a size is taken over
 abbrev pub Answers : Option Contents → Input → Point → Chances → Point → Chances → Type 0
 Answers w (Pressed key) a chance b chance_then = PlaysKey w key a chance b chance_then
-Answers w (Resized rows) a chance b chance_then = (b ≡ record a { rows = rows }) × (chance_then ≡ chance)
+Answers w (Resized size) a chance b chance_then = (b ≡ record a { size = size }) × (chance_then ≡ chance)
 
 -- it isn't for want of chance: a key
 abbrev pub LacksInput : Input → Point → Chances → Point → Chances → Type 0
 LacksInput (Pressed key) a chance b chance_then = LacksSupply key a chance b chance_then
-LacksInput (Resized rows) a chance b chance_then = ⊥
+LacksInput (Resized size) a chance b chance_then = ⊥
 
 -- the next of what is typed is answered, and what comes of it is drawn, or the terminal fails
 abbrev pub Advances : Option Contents → Bool → Course → Course → Type 0
 Advances w failing c d =
     (input : Input)
     × TakesInput (Some input) c.stage d.stage × Answers w input c.at c.stage.chance d.at d.stage.chance
-    × Draws failing (stage_text d.at.rows d.at.play) c.stage.drawn c.stage.terminal d.stage.drawn d.stage.terminal
+    × Draws failing (stage_text d.at.size d.at.play) c.stage.drawn c.stage.terminal d.stage.drawn d.stage.terminal
 
 -- the next key isn't played for want of words, and nothing is drawn
 abbrev pub LacksChance : Course → Course → Type 0

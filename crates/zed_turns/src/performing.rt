@@ -14,9 +14,9 @@ use crate::tape::Tape;
 use crate::turns::{play_on, show};
 use std::alloc::Global;
 use zed_play::Play;
-use zed_staging::Inputs;
+use zed_staging::{Inputs, Size};
 
-/// Draws a playtest before its first step on a terminal of so many rows, and plays it on: with words of
+/// Draws a playtest before its first step on a terminal of a size, and plays it on: with words of
 /// chance that came already before those of the source.
 ///
 /// # Errors
@@ -26,7 +26,7 @@ pub fn play_from<A: Atlas, T: Terminal, I: Inputs, C: Chance>(
     atlas: &A,
     play: Play,
     words: Vec<u16>,
-    rows: usize,
+    size: Size,
     terminal: &mut T,
     inputs: &mut I,
     chance: &mut C,
@@ -38,15 +38,15 @@ pub fn play_from<A: Atlas, T: Terminal, I: Inputs, C: Chance>(
         (I.left inputs.new) (I.inputs_foretell inputs.new)
         (chances (C.to_come chance.new) (C.chance_failures chance.new)) in
         MatchResult result
-        (λ tape. Performs (A.world atlas.now) (at_start rows play words.items) before after (Ok (point tape)))
-        (λ e. Performs (A.world atlas.now) (at_start rows play words.items) before after (Err e)) }
+        (λ tape. Performs (A.world atlas.now) (at_start size play words.items) before after (Ok (point tape)))
+        (λ e. Performs (A.world atlas.now) (at_start size play words.items) before after (Err e)) }
     ensures key_faults { Counts (is_key_fault result)
         (I.input_failures inputs.old) (I.input_failures inputs.new) }
     ensures screen_faults { Counts (is_screen_fault result)
         (T.draw_failures terminal.old) (T.draw_failures terminal.new) }
     ensures left { T.times_left terminal.new ≡ T.times_left terminal.old }
 {
-    let mut tape = Tape::new(play, words, rows);
+    let mut tape = Tape::new(play, words, size);
     show(alloc, &tape, terminal)?;
     play_on(alloc, atlas, &mut tape, terminal, inputs, chance)?;
     Ok(tape)

@@ -11,7 +11,7 @@ use crate::devices::Chance;
 use crate::error::TurnError;
 use std::alloc::{AllocError, Global};
 use zed_play::{Ending, Key, Play, PlayError, Way};
-use zed_staging::{DeviceFailed, Input};
+use zed_staging::{DeviceFailed, Input, Size};
 
 /// A step that lacks words is tried again with 32 more of them, so many times.
 const REFILLS: u32 = 4096;
@@ -25,19 +25,19 @@ pub struct Tape {
     pub words: Vec<u16>,
     /// How many words were used.
     pub used: usize,
-    /// How many rows the terminal has.
-    pub rows: usize,
+    /// How large the terminal is.
+    pub size: Size,
 }
 
 impl Tape {
-    /// A playtest before its first step, with words of chance that came already, on a terminal of so
-    /// many rows. It takes no memory.
-    pub fn new(play: Play, words: Vec<u16>, rows: usize) -> Tape
+    /// A playtest before its first step, with words of chance that came already, on a terminal of
+    /// this size. It takes no memory.
+    pub fn new(play: Play, words: Vec<u16>, size: Size) -> Tape
         ensures play { result.play ≡ play }
         ensures keys { result.keys.items ≡ [] }
         ensures words { result.words ≡ words }
         ensures used { result.used ≡ 0 }
-        ensures rows { result.rows ≡ rows }
+        ensures size { result.size ≡ size }
     {
         let keys = Vec::new(*words.allocator());
         Tape {
@@ -45,7 +45,7 @@ impl Tape {
             keys,
             words,
             used: 0,
-            rows,
+            size,
         }
     }
 
@@ -65,7 +65,7 @@ impl Tape {
             self.old.play (drop self.old.used self.old.words.items) self.new.play) }
         ensures words { self.new.words ≡ self.old.words }
         ensures keys { self.new.keys ≡ self.old.keys }
-        ensures rows { self.new.rows ≡ self.old.rows }
+        ensures size { self.new.size ≡ self.old.size }
         ensures within { self.new.used ≤ length self.new.words.items }
     {
         let left = self.words.split_at(self.used).1;
@@ -94,7 +94,7 @@ impl Tape {
         ensures play { self.new.play ≡ self.old.play }
         ensures keys { self.new.keys ≡ self.old.keys }
         ensures used { self.new.used ≡ self.old.used }
-        ensures rows { self.new.rows ≡ self.old.rows }
+        ensures size { self.new.size ≡ self.old.size }
     {
         match chance.more() {
             Ok(words) => Ok(self.words.extend_from_slice(&words)?),
@@ -116,7 +116,7 @@ impl Tape {
         ensures calm { (result ≢ Err TurnError.NoWords)
             → C.chance_failures chance.new ≡ C.chance_failures chance.old }
         ensures keys { self.new.keys ≡ self.old.keys }
-        ensures rows { self.new.rows ≡ self.old.rows }
+        ensures size { self.new.size ≡ self.old.size }
         ensures within { self.new.used ≤ length self.new.words.items }
     {
         if self.attempt(key)? {
@@ -139,7 +139,7 @@ impl Tape {
         ensures play { self.new.play ≡ self.old.play }
         ensures words { self.new.words ≡ self.old.words }
         ensures used { self.new.used ≡ self.old.used }
-        ensures rows { self.new.rows ≡ self.old.rows }
+        ensures size { self.new.size ≡ self.old.size }
     {
         self.keys.push(key)?;
         Ok(())
@@ -154,7 +154,7 @@ impl Tape {
         ensures keys { self.new.keys ≡ self.old.keys }
         ensures words { self.new.words ≡ self.old.words }
         ensures used { self.new.used ≡ self.old.used }
-        ensures rows { self.new.rows ≡ self.old.rows }
+        ensures size { self.new.size ≡ self.old.size }
     {
         if let Some(Ending::Left(board)) = self.play.ending() {
             if let Some(play) = atlas.enter(alloc, &self.play, board, way)? {
@@ -215,8 +215,8 @@ impl Tape {
     {
         match input {
             Input::Pressed(key) => self.play_key(alloc, atlas, chance, key),
-            Input::Resized(rows) => {
-                self.rows = usize::from(rows);
+            Input::Resized(size) => {
+                self.size = size;
                 Ok(())
             }
         }

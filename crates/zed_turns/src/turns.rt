@@ -57,7 +57,7 @@ pub(crate) fn show<T: Terminal>(
     tape: &Tape,
     terminal: &mut T,
 ) -> Result<(), TurnError>
-    ensures ok { OnOk result (Draws false (stage_text tape.now.rows tape.now.play)
+    ensures ok { OnOk result (Draws false (stage_text tape.now.size tape.now.play)
         (T.drawn terminal.old) (T.draws_foretell terminal.old)
         (T.drawn terminal.new) (T.draws_foretell terminal.new)) }
     ensures err { IfErr result (λ e. ((e ≡ TurnError.Memory) × (terminal.new ≡ terminal.old))
@@ -67,7 +67,7 @@ pub(crate) fn show<T: Terminal>(
         (T.draw_failures terminal.old) (T.draw_failures terminal.new) }
     ensures left { T.times_left terminal.new ≡ T.times_left terminal.old }
 {
-    let text = staged(alloc, &tape.play, tape.rows)?;
+    let text = staged(alloc, &tape.play, tape.size)?;
     draw(terminal, text.as_slice())
 }
 

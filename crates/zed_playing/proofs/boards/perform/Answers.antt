@@ -15,13 +15,13 @@ returns-in_err-document-clause-performed g c = λ t at.
     let before : Stage = stage (g.T.Terminal.drawn c.args.terminal.now) (g.T.Terminal.draws_foretell c.args.terminal.now) (g.I.Inputs.left c.args.inputs.now) (g.I.Inputs.inputs_foretell c.args.inputs.now) (chances (g.C.Chance.to_come c.args.chance.now) (g.C.Chance.chance_failures c.args.chance.now)) in
     let p = err_from_is_err_and c.from_residual.result c.from_residual.ensures.1 in
     let same : p.0 ≡ c.in_err-document.field-0.0 = p.2 in
-    rw (p.1, same) (unread _ t c.args.going c.args.board c.args.rows c.args.words.items (texts_of c.args.files.now) before c.in_err-document.field-0.0 (c.in_err-document.ensures.collected t at))
+    rw (p.1, same) (unread _ t c.args.going c.args.board c.args.size c.args.words.items (texts_of c.args.files.now) before c.in_err-document.field-0.0 (c.in_err-document.ensures.collected t at))
 
 pub returns-clause-performed : goal.returns-clause-performed
 returns-clause-performed g c = λ t at.
     let before : Stage = stage (g.T.Terminal.drawn c.args.terminal.now) (g.T.Terminal.draws_foretell c.args.terminal.now) (g.I.Inputs.left c.args.inputs.now) (g.I.Inputs.inputs_foretell c.args.inputs.now) (chances (g.C.Chance.to_come c.args.chance.now) (g.C.Chance.chance_failures c.args.chance.now)) in
     let after : Stage = stage (g.T.Terminal.drawn c.play_board.new.terminal) (g.T.Terminal.draws_foretell c.play_board.new.terminal) (g.I.Inputs.left c.play_board.new.inputs) (g.I.Inputs.inputs_foretell c.play_board.new.inputs) (chances (g.C.Chance.to_come c.play_board.new.chance) (g.C.Chance.chance_failures c.play_board.new.chance)) in
-    performed_of _ t c.args.going c.from.result c.args.board c.args.rows c.args.words.items (texts_of c.args.files.now) c.in_ok-document.document.edits before after c.play_board.result
+    performed_of _ t c.args.going c.from.result c.args.board c.args.size c.args.words.items (texts_of c.args.files.now) c.in_ok-document.document.edits before after c.play_board.result
     c.from.ensures (c.in_ok-document.ensures.collected t at) c.play_board.ensures.performs
 
 pub returns-in_err-document-clause-failures : goal.returns-in_err-document-clause-failures

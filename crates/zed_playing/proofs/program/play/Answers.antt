@@ -19,7 +19,7 @@ returns-in_err-text-clause-ends g c = λ t at.
     let p = err_from_is_err_and c.from_residual.result c.from_residual.ensures.1 in
     let same : p.0 ≡ c.in_err-text.field-0.0 = p.2 in
     let failed = Rose (g.H.Host.faults c.args.host.now) (g.H.Host.faults c.play_and_keep-told.new.host) in
-    let asked = request (text_in c.args.words) (text_in c.args.keys) c.args.going c.args.rows c.args.board (texts_of c.args.files.now) in
+    let asked = request (text_in c.args.words) (text_in c.args.keys) c.args.going c.args.size c.args.board (texts_of c.args.files.now) in
     let now = c.play_and_keep-told.new.console in
     let before = stage (g.T.Terminal.drawn c.args.console.now.terminal) (g.T.Terminal.draws_foretell c.args.console.now.terminal) (g.I.Inputs.left c.args.console.now.inputs.source) None
     (chances (g.C.Chance.to_come c.args.console.now.chance) (g.C.Chance.chance_failures c.args.console.now.chance)) in
@@ -31,7 +31,7 @@ returns-in_err-text-clause-ends g c = λ t at.
 pub returns-clause-ends : goal.returns-clause-ends
 returns-clause-ends g c = λ t at.
     let failed = Rose (g.H.Host.faults c.args.host.now) (g.H.Host.faults c.play_and_keep-told.new.host) in
-    let asked = request (text_in c.args.words) (text_in c.args.keys) c.args.going c.args.rows c.args.board (texts_of c.args.files.now) in
+    let asked = request (text_in c.args.words) (text_in c.args.keys) c.args.going c.args.size c.args.board (texts_of c.args.files.now) in
     let now = c.play_and_keep-told.new.console in
     let held = g.H.Host.contents c.play_and_keep-told.new.host in
     let before = stage (g.T.Terminal.drawn c.args.console.now.terminal) (g.T.Terminal.draws_foretell c.args.console.now.terminal) (g.I.Inputs.left c.args.console.now.inputs.source) None

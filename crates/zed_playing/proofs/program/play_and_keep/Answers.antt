@@ -33,7 +33,7 @@ returns-in_err-tape-clause-ends g c = λ t at.
     rw (p.1, same) (unplayed_ends _ t _ _ c.in_err-tape.field-0.0 _ (c.in_err-tape.ensures.kept ∙ here)
     (elim (c.in_err-tape.ensures.performed t here) [
       | inl memory ↦ inl memory
-      | inr is ↦ inr (performed_so _ _ t c.args.going c.args.board c.args.rows _ _ (texts_of c.args.files.now) _ _ _ (Err c.in_err-tape.field-0.0)
+      | inr is ↦ inr (performed_so _ _ t c.args.going c.args.board c.args.size _ _ (texts_of c.args.files.now) _ _ _ (Err c.in_err-tape.field-0.0)
           (rose_later (g.H.Host.faults c.args.host.now) (g.H.Host.faults c.read_kept.new.host) (g.H.Host.faults c.perform.new.host) c.in_ok-kept.ensures.failures.0.0)
           read.0 begins is)
     ]))
@@ -57,7 +57,7 @@ returns-in_err-keep_all-clause-ends g c = λ t at.
     let second = c.in_ok-tape.ensures.failures.0.0 in
     let third = c.in_err-keep_all.ensures.failures.0.0 in
     let played =
-    performed_so _ _ t c.args.going c.args.board c.args.rows _ _ (texts_of c.args.files.now) _ _ _ (Ok (point c.in_ok-tape.tape))
+    performed_so _ _ t c.args.going c.args.board c.args.size _ _ (texts_of c.args.files.now) _ _ _ (Ok (point c.in_ok-tape.tape))
     (rose_within (g.H.Host.faults c.args.host.now) (g.H.Host.faults c.read_kept.new.host) (g.H.Host.faults c.perform.new.host) (g.H.Host.faults c.keep_all.new.host) first third)
     read.0 begins (c.in_ok-tape.ensures.performed t here) in
     rw (p.1, same) (unkept_ends _ t _ _ (point c.in_ok-tape.tape) c.in_err-keep_all.field-0.0 _ _ there played
@@ -80,7 +80,7 @@ returns-clause-ends g c = λ t at.
     let left = filled c.fill.new.self.taken c.fill.new.self.kept.items _ _ _ c.fill.ensures.taken keys (ap g.I.Inputs.left c.fill.ensures.source) in
     let begins = ap (λ k. stage (g.T.Terminal.drawn c.args.console.now.terminal) (g.T.Terminal.draws_foretell c.args.console.now.terminal) k None (chances (g.C.Chance.to_come c.args.console.now.chance) (g.C.Chance.chance_failures c.args.console.now.chance))) left in (
       point c.in_ok-tape.tape,
-      performed_so _ _ t c.args.going c.args.board c.args.rows _ _ (texts_of c.args.files.now) _ _ _ (Ok (point c.in_ok-tape.tape))
+      performed_so _ _ t c.args.going c.args.board c.args.size _ _ (texts_of c.args.files.now) _ _ _ (Ok (point c.in_ok-tape.tape))
           (rose_within (g.H.Host.faults c.args.host.now) (g.H.Host.faults c.read_kept.new.host) (g.H.Host.faults c.perform.new.host) (g.H.Host.faults c.keep_all.new.host)
           c.in_ok-kept.ensures.failures.0.0 c.in_ok-keep_all.ensures.failures.0.0)
           read.0 begins (c.in_ok-tape.ensures.performed t here),

@@ -6,5 +6,5 @@ use Rattle.zed_staging.proofs.stage.put_rows.Given as goal
 
 abbrev pub invariant-loop-row : goal.invariant-loop-row
 invariant-loop-row l =
-    (l.first ≤ l.row)
-    × (l.out.items ≡ l.fn.out.items ++ flat_map (λ row. coloured_row None (stage_row l.first l.play row)) (range_with_len l.first (l.row - l.first)))
+    (l.part.first ≤ l.row)
+    × (l.out.items ≡ l.fn.out.items ++ flat_map (λ row. coloured_row None (stage_row l.part.columns l.part.left l.part.first l.play row)) (range_with_len l.part.first (l.row - l.part.first)))

@@ -71,7 +71,7 @@ returns-in-Show-clause-failures g c =
 pub returns-in-Play-clause-ends : goal.returns-in-Play-clause-ends
 returns-in-Play-clause-ends g c = λ t at.
     let ended = c.play.ensures.ends t at in
-    rw c.in-Play.is (c.play.result, rw (c.going_of.ensures, c.rows_of.ensures, c.as_slice-in-Play.ensures.value) at ended, c.told-in-Play.ensures)
+    rw c.in-Play.is (c.play.result, rw (c.going_of.ensures, c.size_of.ensures, c.as_slice-in-Play.ensures.value) at ended, c.told-in-Play.ensures)
 
 pub returns-in-Play-clause-asked : goal.returns-in-Play-clause-asked
 returns-in-Play-clause-asked g c =

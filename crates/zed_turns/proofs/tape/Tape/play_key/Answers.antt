@@ -15,5 +15,5 @@ returns-clause-ok g c =
       ap (λ n. drop n c.keep.new.self.words.items) used ∙ ap (λ ws. drop made.used ws.items) words,
       ap (λ ws. ws.items) words,
       c.in_ok-keep.ensures.keys ∙ ap (λ ks. ks.items ++ c.args.key ∷ []) (c.in_ok-go_on.ensures.keys ∙ c.in_ok-supply.ensures.keys),
-      c.in_ok-keep.ensures.rows ∙ c.in_ok-go_on.ensures.rows ∙ c.in_ok-supply.ensures.rows,
+      c.in_ok-keep.ensures.size ∙ c.in_ok-go_on.ensures.size ∙ c.in_ok-supply.ensures.size,
     )

@@ -31,7 +31,7 @@ loop-init g c =
       play = lacking.1;
       keys = c.in_ok-attempt.ensures.keys;
       used = lacking.2;
-      rows = c.in_ok-attempt.ensures.rows;
+      screen = c.in_ok-attempt.ensures.size;
       calm = refl;
     }
 
@@ -72,7 +72,7 @@ loop-preserved g c =
       play = lacking.1 ∙ play;
       keys = c.in_ok-attempt-2.ensures.keys ∙ c.in_ok-refill.ensures.keys ∙ old.keys;
       used = lacking.2 ∙ used;
-      rows = c.in_ok-attempt-2.ensures.rows ∙ c.in_ok-refill.ensures.rows ∙ old.rows;
+      screen = c.in_ok-attempt-2.ensures.size ∙ c.in_ok-refill.ensures.size ∙ old.screen;
       calm = c.in_ok-refill.ensures.failures ∙ old.calm;
     }
 

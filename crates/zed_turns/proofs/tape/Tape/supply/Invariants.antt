@@ -14,6 +14,6 @@ invariant-loop g l = record {
   play : l.self.play ≡ l.fn.self.play;
   keys : l.self.keys ≡ l.fn.self.keys;
   used : l.self.used ≡ l.fn.self.used;
-  rows : l.self.rows ≡ l.fn.self.rows;
+  screen : l.self.size ≡ l.fn.self.size;
   calm : g.C.Chance.chance_failures l.chance ≡ g.C.Chance.chance_failures l.fn.chance;
 }
