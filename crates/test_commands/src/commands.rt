@@ -1,6 +1,7 @@
 //! Commands over a host in memory.
+use crate::desk::{Desk, Outcome};
+use crate::parts::Parts;
 use std::alloc::Global;
-use test_devices::{Desk, Outcome, Parts};
 use zed_host::{Host, MemoryHost, ReadError};
 use zed_link::Link;
 use zed_program::run;

@@ -1,14 +1,24 @@
 //! `test_commands` does the rows that come in over the standard input: commands over hosts in
-//! memory, sessions, and bytes that go over links. It tells what comes of them, and compares
+//! memory, sessions, and bytes that go over links, with devices and links over memory that fail when
+//! a row asks for it and keep what came to them. It tells what comes of them, and compares
 //! nothing. docs/COMMANDS-IN-ROWS.md has the layout of rows.
 #![tactic(auto)]
 
 mod commands;
+mod desk;
+mod devices;
+mod parts;
+mod receiving;
+mod sessions;
+mod traces;
+mod wires;
 
 use commands::run_command;
+use desk::{Desk, Outcome};
+use parts::Parts;
+use sessions::play_session;
 use std::alloc::{AllocError, Global};
 use std::io;
-use test_devices::{Desk, Outcome, Parts, play_session};
 use test_rows::{MOST, Tape};
 
 /// Does the rows of a section.

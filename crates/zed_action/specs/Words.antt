@@ -2,7 +2,7 @@
 use Rattle.std.specs.Prelude.{◌≡◌, ◌⊎◌, ◌<◌, MatchResult, Result, ℕ, ℤ, pos, ◌==◌, if◌then◌else◌, List, [], ◌∷◌, length, map, codes, Option, Some, None, option_and_then, option_map}
 use Rattle.std.specs.Borrow.{Bor}
 use Rattle.std.specs.Str.{bytes_eq}
-use Rattle.zed_digits.specs.Digits.{digits_of}
+use Rattle.zed_plaintext.specs.Digits.{digits_of}
 use Rattle.zed_types.specs.declared.property.Side.{Side}
 use Rattle.zed_types.specs.declared.property.Side.TheVariants.{North, South, West, East}
 use Rattle.zed_types.specs.declared.tile.Rectangle.{Rectangle}

@@ -1,8 +1,8 @@
 //! Numbers in the words of an action: only decimal digits.
 ghost use Rattle.std.specs.Prelude.{◌≡◌, pos, option_map};
-ghost use Rattle.zed_digits.specs.Digits.{digits_of};
+ghost use Rattle.zed_plaintext.specs.Digits.{digits_of};
 
-use zed_digits::digits;
+use zed_plaintext::digits;
 
 /// A number of one byte.
 pub(crate) fn byte(word: &str) -> Option<u8>

@@ -47,8 +47,7 @@ fn read_next<H: Host, C: Command>(host: &mut H, command: &C) -> Result<Option<In
     }
 }
 
-/// Reads the files that a command asks for, one after the other, and gives it each. A command that
-/// also calls devices begins so, and ends with `carry_out`.
+/// Reads the files that a command asks for, one after the other, and gives it each.
 pub fn read_files<H: Host, C: Command>(
     alloc: Global,
     host: &mut H,

@@ -1,5 +1,5 @@
 //! The driver: it reads the files that a command asks for, and carries out what the command comes
-//! to. No other code calls a host for a command.
+//! to.
 #![tactic(auto)]
 
 mod command;

@@ -8,6 +8,7 @@ pub mod Live
 pub mod Mapped
 pub mod NameSearch
 pub mod Names
+mod NewWorlds
 pub mod Normality
 pub mod Numbers16
 pub mod Ordered

@@ -128,11 +128,6 @@ read_refused called name reads e old new is why =
           (λ is. (call (Reading name) true ∷ [], (new, is, refl), inr (inl (file_lacks_nothing, ([], Reading name, reads, refl, refl))))) is
     ]
 
--- it was read
-pub read_passed : {H : Type 0} (called : H → Call → H → Type 0) (name : List ℕ) (old new : H) → called old (call (Reading name) false) new
-    → Asks called (Reading name ∷ []) [] None old new
-read_passed called name old new is = (call (Reading name) false ∷ [], (new, is, refl), refl)
-
 -- the others aren't needed
 pub read_then_stopped : {H : Type 0} (called : H → Call → H → Type 0) (name : List ℕ) (reads : List Ask) (e : Refusal) (old new : H)
     → (e ≡ File → ⊥)

@@ -17,7 +17,7 @@ use mathlib.Core.Logic.{◌⊎◌}
 use Rattle.zed_host.specs.Counting.{Counts, Rose}
 use Rattle.zed_host.proofs.Counts.{rose_later}
 use Rattle.zed_files.specs.Faults.{NoneForgotten, TellsFailures}
-use Rattle.zed_files.specs.Refusals.{action_refusal, document_refusal, file_refusal, session_refusal, world_refusal}
+use Rattle.zed_files.specs.Refusals.{file_refusal, session_refusal}
 
 pub memory_is_other : (e : Refusal) → e ≡ Memory → e ≡ File → ⊥
 memory_is_other e memory is = cc
@@ -30,30 +30,6 @@ file_is_other file.OtherWorld is = cc
 file_is_other file.RecordLength is = cc
 file_is_other (file.BadEdit a) is = cc
 file_is_other file.CutShort is = cc
-
-document_is_other : (e : DocumentError) → document_refusal e ≡ File → ⊥
-document_is_other document.Memory is = cc
-document_is_other document.OtherWorld is = cc
-document_is_other (document.BadEdit a) is = cc
-document_is_other (document.Clash a) is = cc
-document_is_other document.Stale is = cc
-document_is_other document.NoSuch is = cc
-document_is_other document.OutOfRange is = cc
-document_is_other document.ClockSpent is = cc
-
-pub action_is_other : (e : ActionError) → action_refusal e ≡ File → ⊥
-action_is_other action.BadAction is = cc
-action_is_other (action.Document e) is = document_is_other e is
-
-pub world_is_other : (e : WorldError) → world_refusal e ≡ File → ⊥
-world_is_other world.Memory is = cc
-world_is_other world.NotZzt is = cc
-world_is_other world.TooManyBoards is = cc
-world_is_other world.Truncated is = cc
-world_is_other world.BadBoardSize is = cc
-world_is_other world.TooManyStats is = cc
-world_is_other world.BadShare is = cc
-world_is_other (world.BoardOver a b) is = cc
 
 pub session_is_other : (e : SessionError) → session_refusal e ≡ File → ⊥
 session_is_other session.Memory is = cc

@@ -13,12 +13,12 @@ use Rattle.zed_link.specs.declared.error.LinkError.{LinkError}
 use Rattle.zed_world.specs.declared.error.WorldError.{WorldError}
 use Rattle.zed_files.specs.declared.refusal.Refusal.{Refusal}
 use Rattle.zed_files.specs.declared.refusal.Refusal.TheVariants.{File, Memory}
-use Rattle.std.proofs.Common.{◌≡◌, ℕ, Bool, false, Option, Some, None, Result, Ok, Err, MatchResult, refl, subst, sym, inl, inr}
+use Rattle.std.proofs.Common.{◌≡◌, ℕ, Bool, false, Option, Some, None, Result, Ok, Err, refl, subst, sym, inl, inr}
 use Rattle.std.specs.Prelude.{IfErr, IfSome, IsErrAnd}
 use mathlib.Core.Logic.{◌⊎◌}
 use Rattle.zed_host.specs.Counting.{Counts}
 use Rattle.zed_files.specs.Files.{end_of}
-use Rattle.zed_files.specs.Refusals.{IsOffStage, action_refusal, document_refusal, export_refusal, file_refusal, is_key_fault, is_screen_fault, link_refusal, world_refusal}
+use Rattle.zed_files.specs.Refusals.{IsOffStage, export_refusal, file_refusal, is_key_fault, is_screen_fault, link_refusal}
 
 -- a refusal that is one of these
 pub is_off : (e f : Refusal) → e ≡ f → IsOffStage f → IsOffStage e
@@ -39,30 +39,6 @@ file_off file.OtherWorld = (refl, refl)
 file_off file.RecordLength = (refl, refl)
 file_off (file.BadEdit a) = (refl, refl)
 file_off file.CutShort = (refl, refl)
-
-document_off : (e : DocumentError) → IsOffStage (document_refusal e)
-document_off document.Memory = (refl, refl)
-document_off document.OtherWorld = (refl, refl)
-document_off (document.BadEdit a) = (refl, refl)
-document_off (document.Clash a) = (refl, refl)
-document_off document.Stale = (refl, refl)
-document_off document.NoSuch = (refl, refl)
-document_off document.OutOfRange = (refl, refl)
-document_off document.ClockSpent = (refl, refl)
-
-pub action_off : (e : ActionError) → IsOffStage (action_refusal e)
-action_off action.BadAction = (refl, refl)
-action_off (action.Document e) = document_off e
-
-pub world_off : (e : WorldError) → IsOffStage (world_refusal e)
-world_off world.Memory = (refl, refl)
-world_off world.NotZzt = (refl, refl)
-world_off world.TooManyBoards = (refl, refl)
-world_off world.Truncated = (refl, refl)
-world_off world.BadBoardSize = (refl, refl)
-world_off world.TooManyStats = (refl, refl)
-world_off world.BadShare = (refl, refl)
-world_off (world.BoardOver a b) = (refl, refl)
 
 pub export_off : (e : ExportError) → IsOffStage (export_refusal e)
 export_off export.Memory = (refl, refl)
@@ -99,13 +75,6 @@ off_on (Err x) e told off = is_off x e told off
 pub written_off : {X : Type 0} (answer : Result X Refusal) → IfErr answer (λ e. e ≡ File) → IfErr answer IsOffStage
 written_off (Ok x) err = tt
 written_off (Err e) err = is_off e File err (refl, refl)
-
--- an answer for want of memory, or of what is so refused
-pub made_off : {X : Type 0} (P : X → Type 0) (Q : Refusal → Type 0) (answer : Result X Refusal)
-    → MatchResult answer P (λ e. (e ≡ Memory) ⊎ Q e)
-    → ((e : Refusal) → Q e → IsOffStage e) → IfErr answer IsOffStage
-made_off P Q (Ok x) match off = tt
-made_off P Q (Err e) match off = elim match [ inl memory ↦ memory_off e memory | inr why ↦ off e why ]
 
 -- ---- the counts of failed calls
 

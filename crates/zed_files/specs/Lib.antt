@@ -3,7 +3,10 @@ pub mod Collected
 pub mod Effects
 pub mod Faults
 pub mod Files
+pub mod Gathers
 pub mod Lines
 pub mod Opened
 pub mod Refusals
+pub mod Rewrites
+pub mod Tells
 pub mod Texts

@@ -14,6 +14,10 @@ use Rattle.zed_session.specs.declared.error.SessionError.{SessionError}
 use Rattle.zed_session.specs.declared.error.SessionError.TheVariants as session
 use Rattle.zed_session.specs.Refusals as told
 use Rattle.zed_session.specs.Told as linked
+use Rattle.zed_driver.specs.declared.command.Stop.{Stop}
+use Rattle.zed_driver.specs.declared.command.Stop.TheVariants as stop
+use Rattle.zed_refusal.specs.declared.reason.Reason.{Reason}
+use Rattle.zed_refusal.specs.declared.reason.Reason.TheVariants as reason
 use Rattle.zed_files.specs.declared.refusal.Refusal.{Refusal}
 use Rattle.zed_files.specs.declared.refusal.Refusal.TheVariants.{Memory, NotZzt, TooManyBoards, Truncated, BadBoardSize, TooManyStats, BadShare, Magic, NewVersion, OtherWorld, RecordLength, BadEdit, CutShort, Clash, Stale, NoSuch}
 use Rattle.zed_files.specs.declared.refusal.Refusal.TheVariants.{ClockSpent, OutOfRange, BadAction, NoWorld, BoardsOver, StatsOver, BoardOver, File, NoBoard, NoWords, Over, LinkFault, ScreenFault, KeyFault, TooManyTurns, NoLink}
@@ -86,6 +90,43 @@ export_refusal e = session_refusal (told.export_refusal e)
 -- the refusal of a command for one of a link, as a session tells it
 abbrev pub link_refusal : LinkError → Refusal
 link_refusal e = session_refusal (linked.link_refusal e)
+
+-- the refusal of a program for one of a command that calls no device
+abbrev pub reason_refusal : Reason → Refusal
+reason_refusal reason.NotZzt = NotZzt
+reason_refusal reason.TooManyBoards = TooManyBoards
+reason_refusal reason.Truncated = Truncated
+reason_refusal reason.BadBoardSize = BadBoardSize
+reason_refusal reason.TooManyStats = TooManyStats
+reason_refusal reason.BadShare = BadShare
+reason_refusal reason.Magic = Magic
+reason_refusal reason.NewVersion = NewVersion
+reason_refusal reason.OtherWorld = OtherWorld
+reason_refusal reason.RecordLength = RecordLength
+reason_refusal (reason.BadEdit c) = BadEdit c
+reason_refusal reason.CutShort = CutShort
+reason_refusal (reason.Clash s) = Clash s
+reason_refusal reason.Stale = Stale
+reason_refusal reason.ClockSpent = ClockSpent
+reason_refusal reason.NoSuch = NoSuch
+reason_refusal reason.OutOfRange = OutOfRange
+reason_refusal reason.NoWorld = NoWorld
+reason_refusal (reason.BoardsOver n) = BoardsOver n
+reason_refusal (reason.StatsOver b n) = StatsOver b n
+reason_refusal (reason.BoardOver b n) = BoardOver b n
+reason_refusal reason.BadAction = BadAction
+reason_refusal reason.NoBoard = NoBoard
+
+-- the same for why such a command stops
+abbrev pub stop_refusal : Stop Reason → Refusal
+stop_refusal stop.Memory = Memory
+stop_refusal stop.File = File
+stop_refusal (stop.Refused e) = reason_refusal e
+
+-- what it comes to, with the refusal of a program
+abbrev pub refused_as : {X : Type 0} → Result X (Stop Reason) → Result X Refusal
+refused_as (Ok x) = Ok x
+refused_as (Err e) = Err (stop_refusal e)
 
 -- where this is refused, so is that, with the same refusal, whether memory is lacking or not
 abbrev pub TellsRefusal : {X Y : Type 0} → Result Y Refusal → Result X Refusal → Type 0

@@ -1,19 +1,21 @@
 //! Why a command was not carried out, and the lines that the program prints.
 ghost use Rattle.std.specs.Prelude.{◌≡◌, ◌≤◌, length, IfOk, IfSome, None, false, string_bytes, true};
 ghost use Rattle.zed_files.specs.declared.refusal.Refusal.TheVariants.{BadEdit, File, Memory};
-ghost use Rattle.zed_files.specs.Refusals.{action_refusal, document_refusal, export_refusal, file_refusal, link_refusal, session_refusal, world_refusal};
+ghost use Rattle.zed_files.specs.Refusals.{action_refusal, document_refusal, export_refusal, file_refusal, link_refusal, reason_refusal, session_refusal, stop_refusal, world_refusal};
 ghost use Rattle.zed_files.specs.Lines.{bytes_line, edits_line, has_numbers, held_line, line_of as line_for};
 
+use crate::Line;
 use std::alloc::{AllocError, Global};
 use thiserror::Error;
 use zed_action::ActionError;
 use zed_document::DocumentError;
+use zed_driver::Stop;
 use zed_edit::Cause;
 use zed_editfile::EditFileError;
 use zed_export::ExportError;
 use zed_host::WriteError;
-use zed_lines::Line;
 use zed_link::LinkError;
+use zed_refusal::Reason;
 use zed_session::SessionError;
 use zed_types::Stamp;
 use zed_world::WorldError;
@@ -191,6 +193,50 @@ impl From<SessionError> for Refusal {
             SessionError::KeyFault => Refusal::KeyFault,
             SessionError::TooManyTurns => Refusal::TooManyTurns,
             SessionError::NoLink => Refusal::NoLink,
+        }
+    }
+}
+
+impl From<Reason> for Refusal {
+    ghost from_gives = { λ reason refusal. refusal ≡ reason_refusal reason };
+
+    fn from(reason: Reason) -> Refusal {
+        match reason {
+            Reason::NotZzt => Refusal::NotZzt,
+            Reason::TooManyBoards => Refusal::TooManyBoards,
+            Reason::Truncated => Refusal::Truncated,
+            Reason::BadBoardSize => Refusal::BadBoardSize,
+            Reason::TooManyStats => Refusal::TooManyStats,
+            Reason::BadShare => Refusal::BadShare,
+            Reason::Magic => Refusal::Magic,
+            Reason::NewVersion => Refusal::NewVersion,
+            Reason::OtherWorld => Refusal::OtherWorld,
+            Reason::RecordLength => Refusal::RecordLength,
+            Reason::BadEdit(cause) => Refusal::BadEdit(cause),
+            Reason::CutShort => Refusal::CutShort,
+            Reason::Clash(stamp) => Refusal::Clash(stamp),
+            Reason::Stale => Refusal::Stale,
+            Reason::ClockSpent => Refusal::ClockSpent,
+            Reason::NoSuch => Refusal::NoSuch,
+            Reason::OutOfRange => Refusal::OutOfRange,
+            Reason::NoWorld => Refusal::NoWorld,
+            Reason::BoardsOver(boards) => Refusal::BoardsOver(boards),
+            Reason::StatsOver { board, stats } => Refusal::StatsOver { board, stats },
+            Reason::BoardOver { board, bytes } => Refusal::BoardOver { board, bytes },
+            Reason::BadAction => Refusal::BadAction,
+            Reason::NoBoard => Refusal::NoBoard,
+        }
+    }
+}
+
+impl From<Stop<Reason>> for Refusal {
+    ghost from_gives = { λ stop refusal. refusal ≡ stop_refusal stop };
+
+    fn from(stop: Stop<Reason>) -> Refusal {
+        match stop {
+            Stop::Memory => Refusal::Memory,
+            Stop::File => Refusal::File,
+            Stop::Refused(reason) => Refusal::from(reason),
         }
     }
 }

@@ -7,11 +7,11 @@ use Rattle.zed_types.specs.declared.tile.Place.{Place}
 use Rattle.zed_types.specs.declared.tile.Tile.{Tile as TheTile}
 use Rattle.zed_log.specs.Fields.{number, place, quoted}
 use Rattle.zed_log.specs.Words.{side_word}
-use Rattle.zed_list.specs.Laws.{lines_in}
-use Rattle.zed_list.specs.Stats.{element_of}
-use Rattle.zed_list.proofs.Counted.{one_more}
+use Rattle.zed_log.specs.ListLaws.{lines_in}
+use Rattle.zed_log.specs.Stats.{element_of}
+use Rattle.zed_log.proofs.Counted.{one_more}
 use Rattle.zed_log.proofs.Printed.{plain, both, number_is, quoted_is, place_is}
-use Rattle.zed_list.proofs.Printed.{element_of_is}
+use Rattle.zed_log.proofs.ListPrinted.{element_of_is}
 use Rattle.zed_lint.specs.Lines.{finding_line, finding_words, names_words, spot_words, what_words}
 use Rattle.zed_lint.specs.declared.finding.Finding.{Finding}
 use Rattle.zed_lint.specs.declared.finding.Spot.{Spot}

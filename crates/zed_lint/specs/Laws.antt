@@ -4,7 +4,7 @@ use Rattle.std.specs.Prelude.{◌≡◌, ℕ, ◌≤◌, [], length}
 use Rattle.zed_world.specs.Contents.{Contents}
 use Rattle.zed_world.specs.Writing.{body_text}
 use Rattle.zed_world.specs.declared.board.BoardData.{BoardData}
-use Rattle.zed_list.specs.Laws.{lines_in}
+use Rattle.zed_log.specs.ListLaws.{lines_in}
 use Rattle.zed_lint.specs.Boards.{count_of}
 use Rattle.zed_lint.specs.Lines.{lines_of}
 use Rattle.zed_lint.specs.World.{board_findings, findings}

@@ -1,7 +1,7 @@
 -- The lines of what is found.
 use Rattle.std.specs.List.{flat_map}
 use Rattle.std.specs.Prelude.{ℕ, List, [], ◌∷◌, ◌++◌, codes, Some}
-use Rattle.zed_list.specs.Stats.{element_of}
+use Rattle.zed_log.specs.Stats.{element_of}
 use Rattle.zed_log.specs.Fields.{number, place, quoted}
 use Rattle.zed_log.specs.Words.{side_word}
 use Rattle.zed_world.specs.Contents.{Contents}

@@ -4,7 +4,7 @@ use Rattle.zed_types.specs.declared.tile.Tile.{Tile}
 use Rattle.zed_world.specs.Offsets.{is_passage}
 use Rattle.zed_world.specs.declared.board.BoardData.{BoardData}
 use Rattle.zed_world.specs.declared.stat.StatData.{StatData}
-use Rattle.zed_list.specs.Program.{own_bytes}
+use Rattle.zed_log.specs.Program.{own_bytes}
 use Rattle.zed_types.specs.Table.{tile_at}
 use Rattle.zed_lint.specs.Found.{each_from, noted}
 use Rattle.zed_lint.specs.Labels.{labels_findings}

@@ -7,8 +7,7 @@ ghost use Rattle.zed_log.specs.Words.{side_word};
 
 use crate::finding::{Finding, Spot, What};
 use std::alloc::{AllocError, Global};
-use zed_list::put_element_of;
-use zed_log::{put_number, put_place, put_quoted, put_text};
+use zed_log::{put_element_of, put_number, put_place, put_quoted, put_text};
 use zed_types::{Place, Side, Tile};
 
 fn put_board(out: &mut Vec<u8>, number: usize) -> Result<(), AllocError>

@@ -1,7 +1,7 @@
 //! Findings about stats and their programs.
 ghost use Rattle.std.specs.Prelude.{◌≡◌, ◌<◌, ◌++◌, OnErr, OnOk, length, position};
 ghost use Rattle.zed_lint.specs.Stats.{is_line_feed, line_feed, may_have_stat, misplaced, program_findings, self_passage, stat_findings, stat_spot, stats_findings, unended};
-ghost use Rattle.zed_list.specs.Program.{own_bytes as bytes_had};
+ghost use Rattle.zed_log.specs.Program.{own_bytes as bytes_had};
 ghost use Rattle.zed_world.specs.Offsets.{is_passage as is_passage_tile};
 
 use crate::finding::{Finding, Spot, What};

@@ -36,7 +36,7 @@ use Rattle.zed_live.proofs.Lists.{any-here, any-insert, any-beside, any-follows,
 use Rattle.zed_live.proofs.Homes.{puts-made, finds-made, puts-none, puts-makes}
 use Rattle.zed_live.proofs.MadeOnce.{stat-stamp, stat-made-once}
 use Rattle.zed_live.proofs.StatTakes.{stat_takes, stat_passes_others, stat_is_made}
-use Rattle.zed_names.proofs.Found.{in-change, rise-change, or-none}
+use Rattle.zed_stats.proofs.Found.{in-change, rise-change, or-none}
 use Rattle.zed_live.proofs.StatsByName.{only_stat, as_live, in-add_made, in-add_each, rise-add_made, rise-add_each, stat-true, stat-itself, stat-apart}
 
 -- ---- a board that edits don't touch

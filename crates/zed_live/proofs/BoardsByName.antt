@@ -5,7 +5,7 @@ use Rattle.std.specs.Option.{option_map}
 use Rattle.zed_types.specs.declared.names.Name.{Name}
 use Rattle.zed_types.specs.declared.names.BoardId.{BoardId}
 use Rattle.zed_types.specs.Names.{same_board, NamesRise, is_earlier}
-use Rattle.zed_names.specs.ByName.{IsOnlyName}
+use Rattle.zed_stats.specs.ByName.{IsOnlyName}
 use Rattle.zed_live.specs.declared.board.LiveBoard.{LiveBoard}
 use Rattle.zed_live.specs.Boards.{Boards, board_name, board_in, change_all}
 

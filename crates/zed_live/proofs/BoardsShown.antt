@@ -23,7 +23,7 @@ use Rattle.zed_live.specs.declared.board.LiveBoard.{LiveBoard}
 use Rattle.zed_live.specs.Board.{shown_board}
 use Rattle.zed_live.specs.Boards.{Boards, board_name, board_in, shown_boards, IsLeft, BoardsShow, ReplayedBoardsAreShown}
 use Rattle.zed_live.proofs.BoardShown.{replayed_board_is_shown}
-use Rattle.zed_names.proofs.Found.{apart}
+use Rattle.zed_stats.proofs.Found.{apart}
 use Rattle.zed_live.proofs.BoardsTake.{untouched-unmade}
 use Rattle.zed_live.proofs.NamesMapped.{rise-mapped}
 

@@ -35,7 +35,7 @@ use Rattle.zed_live.specs.Stat.{touches_stat}
 use Rattle.zed_live.specs.Board.{as_made, board_after, stat_changed, is_of, touches, IsUntouched, MakesNewStats}
 use Rattle.zed_live.specs.Boards.{Boards, board_name, board_in, change, change_all, add_all, all_as_made, boards_after, IsMade, IsMadeStat, IsLeft, BoardsShow, NoBoardIsMade, ChangesMade, BoardsTake}
 use Rattle.zed_live.proofs.BoardTakes.{untouched-parts, board_takes, board_passes_others, board_is_made}
-use Rattle.zed_names.proofs.Found.{in-change, in-add_all, rise-change, rise-add_all, apart}
+use Rattle.zed_stats.proofs.Found.{in-change, in-add_all, rise-change, rise-add_all, apart}
 use Rattle.zed_live.proofs.BoardsByName.{only_board, in-change_all, rise-change_all}
 use Rattle.zed_live.proofs.Lists.{all-insert, any-insert, any-here, any-late, none-any}
 use Rattle.zed_live.proofs.MadeOnce.{made-once, stat-made-once}

@@ -22,9 +22,9 @@ use Rattle.zed_types.specs.Stamp.{stamp_cmp}
 use Rattle.zed_types.proofs.StampOrder.{same_board-true}
 use Rattle.zed_types.proofs.Facts.{is_some-map, all_weaker}
 use Rattle.zed_types.proofs.Orderings.{name_same, name_total}
-use Rattle.zed_names.specs.ByName.{put, add}
-use Rattle.zed_names.proofs.Changed.{change-none}
-use Rattle.zed_names.proofs.Found.{in-change, rise-change, rise-add_all}
+use Rattle.zed_stats.specs.ByName.{put, add}
+use Rattle.zed_stats.proofs.Changed.{change-none}
+use Rattle.zed_stats.proofs.Found.{in-change, rise-change, rise-add_all}
 use Rattle.zed_op.specs.declared.op.Op.{Op}
 use Rattle.zed_op.specs.declared.op.Op.TheVariants.{BoardRemove, SetBoard, SetCells, StatAdd, StatRemove, SetStat}
 use Rattle.zed_edit.specs.declared.plain.Board.{Board}

@@ -16,8 +16,8 @@ use Rattle.std.specs.Ordering.{is_eq, ordering_reverse}
 use Rattle.zed_types.specs.declared.names.Name.{Name}
 use Rattle.zed_types.proofs.Orderings.{less_from, name_less, name_same, name_total}
 use Rattle.zed_types.specs.Names.{NamesRise, is_earlier, name_cmp}
-use Rattle.zed_names.specs.ByName.{Under, IsOnlyName, key_cmp, same, under, change}
-use Rattle.zed_names.proofs.Found.{apart, one, rise-change}
+use Rattle.zed_stats.specs.ByName.{Under, IsOnlyName, key_cmp, same, under, change}
+use Rattle.zed_stats.proofs.Found.{apart, one, rise-change}
 use Rattle.zed_live.proofs.Pairs.{sorted_cons}
 
 -- ---- the order of names

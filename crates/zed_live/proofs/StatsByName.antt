@@ -9,8 +9,8 @@ use Rattle.zed_edit.specs.declared.plain.Stat.{Stat}
 use Rattle.zed_laws.specs.Winners.{find_stat}
 use Rattle.zed_stats.specs.declared.stat.LiveStat.{LiveStat}
 use Rattle.zed_stats.specs.Fields.{new_stat}
-use Rattle.zed_names.specs.ByName.{IsOnlyName}
-use Rattle.zed_names.proofs.Found.{or-none, in-add, rise-add}
+use Rattle.zed_stats.specs.ByName.{IsOnlyName}
+use Rattle.zed_stats.proofs.Found.{or-none, in-add, rise-add}
 use Rattle.zed_stats.specs.Stats.{stat_name}
 use Rattle.zed_live.specs.Stat.{values_of, shown_stat}
 use Rattle.zed_live.specs.BoardStats.{Entries, stat_in, add_made, add_each, shown_stats}

@@ -5,7 +5,7 @@ use Rattle.zed_types.specs.declared.stamp.Stamp.{Stamp}
 use Rattle.zed_types.specs.declared.names.BoardId.{BoardId}
 use Rattle.zed_types.specs.declared.names.StatId.{StatId}
 use Rattle.zed_types.specs.Names.{stat_of, same_board, NamesRise}
-use Rattle.zed_names.specs.ByName as names
+use Rattle.zed_stats.specs.ByName as names
 use Rattle.zed_op.specs.declared.op.Op.{Op}
 use Rattle.zed_op.specs.declared.op.Op.TheVariants.{StatAdd, StatRemove, SetStat}
 use Rattle.zed_op.specs.declared.op.Edit.{Edit}

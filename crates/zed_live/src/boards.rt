@@ -15,7 +15,7 @@ use indexmap::IndexMap;
 use std::alloc::{AllocError, Global};
 use std::marker::Model;
 use zed_edit::{Board, Edit, Op, made_by};
-use zed_names::{add_each, find, seek};
+use zed_stats::{add_each, find, seek};
 use zed_types::{BoardId, Stamp, StatId};
 
 /// Boards, removed ones too, in the order of their names.

@@ -19,7 +19,7 @@ use std::alloc::{AllocError, Global};
 use std::collections::BTreeSet;
 use std::marker::Model;
 use zed_edit::{Board, Edit, Op, Stat};
-use zed_names::{find, seek};
+use zed_stats::{find, seek};
 use zed_types::{BoardId, Name, Stamp, StatId};
 
 /// No name of a board comes before this one.

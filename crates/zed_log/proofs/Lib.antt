@@ -1,12 +1,14 @@
 pub mod Codes
+pub mod Counted
 pub mod Digits
 pub mod Elements
+pub mod ListPrinted
 pub mod Numerals
 pub mod Ops
 pub mod Parts
 pub mod Pieces
 pub mod Printed
-pub mod Short
 pub mod Registers
-pub mod Stats
+pub mod Short
+pub mod StatWords
 pub mod Strings

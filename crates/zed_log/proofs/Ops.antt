@@ -23,7 +23,7 @@ use Rattle.zed_log.proofs.Numerals.{number_code, number_starts}
 use Rattle.zed_log.proofs.Strings.{quoted_code}
 use Rattle.zed_log.proofs.Parts.{digit_or_not, board_code, stat_code, text_code, element_name_code, rectangle_code, tile_code, range_code}
 use Rattle.zed_log.proofs.Registers.{header_code, property_code, field_code}
-use Rattle.zed_log.proofs.Stats.{stat_fields_code}
+use Rattle.zed_log.proofs.StatWords.{stat_fields_code}
 
 -- what tells the ops apart: the first letter, with `a` the fifth, with `r` the eighth
 abbrev pub op_kind_at : List ℕ → ℕ

@@ -1,4 +1,8 @@
+pub mod Boards
 pub mod Fields
 pub mod Laws
 pub mod Line
+pub mod ListLaws
+pub mod Program
+pub mod Stats
 pub mod Words

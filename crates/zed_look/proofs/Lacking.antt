@@ -7,7 +7,7 @@ use Rattle.std.specs.Int.Digits.{digits_of, AllBelowBase}
 use Rattle.std.proofs.lemmas.Int.Digits.{all_below_base_digits_of}
 use Rattle.std.proofs.lemmas.Bool.Decides.{nat_tests}
 use Rattle.zed_look.specs.declared.look.Spot.{Spot}
-use Rattle.zed_codepage.specs.CodePage.{code_points, code_point}
+use Rattle.zed_plaintext.specs.CodePage.{code_points, code_point}
 use Rattle.zed_look.specs.Glyphs.{glyph}
 use Rattle.zed_look.specs.Parts.{number}
 use Rattle.zed_look.specs.Plain.{characters_of}

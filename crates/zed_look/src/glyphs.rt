@@ -4,7 +4,7 @@ ghost use Rattle.std.specs.List.{flat_map};
 ghost use Rattle.zed_look.specs.Glyphs.{glyph};
 
 use std::alloc::AllocError;
-use zed_codepage::glyph;
+use zed_plaintext::glyph;
 
 // Appends the character of a number.
 #[tactic(auto, unfolding(crate::specs::Glyphs::glyph))]

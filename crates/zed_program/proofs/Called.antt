@@ -10,7 +10,7 @@ use Rattle.zed_program.specs.Called.{CallsDevices, ShowsOnce, calls_links, calls
 use Rattle.zed_program.specs.Outcome.{SaysWhy, status_of}
 use Rattle.zed_words.specs.Commands.{Command, IsRefusedAloud, Save, Check, New, Edit as EditFile, Merge, Show, Play}
 use Rattle.zed_host.specs.Calls.{Call}
-use Rattle.zed_worlds.specs.Shown.{CallsOnce, IsOfPlay, is_of_playing}
+use Rattle.cmd_show.specs.Shown.{CallsOnce, IsOfPlay, is_of_playing}
 
 -- no device was called by words that need none
 pub none_called : (command : Option Command) (status : ℕ) (links : List LinkSeen) (foretold : Option (List Bool)) (L S K : Type 0) → L → S

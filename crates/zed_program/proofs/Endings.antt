@@ -15,28 +15,36 @@ use Rattle.zed_files.specs.Lines.{line_of}
 use Rattle.zed_host.proofs.Counts.{no_rise}
 use Rattle.zed_files.proofs.Failures.{memory_is_other}
 use Rattle.zed_program.specs.Outcome.{ComesTo, EndsCalmly, EndsRun, HasLacked, HasStatus, HasTurned, IsComplained, IsTold, RefusedRun, SaysWhy}
-use Rattle.zed_files.specs.Effects.{Effect, Ends, IsRefused, after}
+use Rattle.zed_driver.specs.Effects.{Effect}
+use Rattle.zed_files.specs.Effects as beside
+use Rattle.zed_program.specs.Ends.{ComesBeside, Ends, IsRefused, as_effect}
+use Rattle.zed_program.specs.Under.{ComesOf, WantsOf}
 use Rattle.zed_session.specs.Links.{LinkSeen}
 use Rattle.zed_op.specs.declared.op.Edit.{Edit}
-use Rattle.zed_making.specs.Merged.{ComesToMerge, IsMerged, LacksForMerge, MadeMostReads}
-use Rattle.zed_worlds.specs.Shown.{CallsOnce, ComesToShow, EndsPlaying}
-use Rattle.zed_worlds.specs.Stage.{Stage}
-use Rattle.zed_making.proofs.Endings.{create_so, edit_so}
-use Rattle.zed_making.proofs.Others.{merged_turns}
-use Rattle.zed_worlds.proofs.Endings.{save_so, check_so, show_so, play_so}
+use Rattle.zed_program.specs.Merged.{ComesToMerge, IsMerged, LacksForMerge, MadeMostReads}
+use Rattle.cmd_show.specs.Shown.{CallsOnce, ComesToPlay, ComesToShow, EndsPlaying, LacksForPlay}
+use Rattle.cmd_show.specs.Stage.{Stage}
+use Rattle.zed_program.proofs.MergedOthers.{merged_turns}
+use Rattle.cmd_show.proofs.Endings.{show_so, play_so}
+use Rattle.zed_program.proofs.Under.{beside_ends, under_so}
 
 -- what holds of a command where the host failed holds where it may have failed
 pub comes_so : (old new : Devices) (p q : Type 0) (command : Command) (t : HostContents) (r : Result Effect Refusal) → (p → q)
     → ComesTo p old new command t r
     → ComesTo q old new command t r
-comes_so old new p q (Save profile out files) t r so is = save_so t (limit_of profile) out files p q r so is
-comes_so old new p q (Check profile files) t r so is = check_so t (limit_of profile) files p q r so is
-comes_so old new p q (New out world from name) t r so is = create_so t out world from name p q r so is
-comes_so old new p q (EditFile file replica words) t r so is = edit_so t file replica words p q r so is
+comes_so old new p q (Save profile out files) t r so is =
+    under_so p q t (WantsOf (Save profile out files)) (ComesOf (Save profile out files)) r so is
+comes_so old new p q (Check profile files) t r so is =
+    under_so p q t (WantsOf (Check profile files)) (ComesOf (Check profile files)) r so is
+comes_so old new p q (New out world from name) t r so is =
+    under_so p q t (WantsOf (New out world from name)) (ComesOf (New out world from name)) r so is
+comes_so old new p q (EditFile file replica words) t r so is =
+    under_so p q t (WantsOf (EditFile file replica words)) (ComesOf (EditFile file replica words)) r so is
 comes_so old new p q (Merge out world files) t r so is = is
-comes_so old new p q (Show profile board files) t r so is = show_so old.stage new.stage t (limit_of profile) board files p q r so is
+comes_so old new p q (Show profile board files) t r so is =
+    (is.0, show_so old.stage new.stage t (limit_of profile) board files p q is.0 so is.1, is.2)
 comes_so old new p q (Play profile board chance files) t r so is =
-    play_so old.stage new.stage t (limit_of profile) board chance files p q r so is
+    (is.0, play_so old.stage new.stage t (limit_of profile) board chance files p q is.0 so is.1, is.2)
 
 -- a text was written to the standard error, or the host failed at it
 pub complained : (result : Result ⊤ WriteError) (old new : ℕ) (text : List ℕ) (t : HostContents) (before after : Option HostContents)
@@ -53,6 +61,12 @@ merge_turned : (links after : List LinkSeen) (out : List ℕ) (world count : ℕ
 merge_turned links after out world count e (Ok es, merged, is) turns = absurd (cc)
 merge_turned links after out world count e (Err f, merged, is) turns = let same : f ≡ e = cc in merged_turns world count links after f merged (same ∙ turns)
 
+-- the refusal of a command that calls devices
+refused_beside : (Comes : Result beside.Effect Refusal → Type 0) (e : Refusal) (q : Result beside.Effect Refusal) → Err e ≡ as_effect q → Comes q
+    → Comes (Err e)
+refused_beside Comes e (Ok x) is comes = absurd (cc)
+refused_beside Comes e (Err f) is comes = let same : f ≡ e = cc in subst (λ e. Comes (Err e)) same comes
+
 -- where too many turns are told, they were made
 has_turned : (old new : Devices) (command : Command) (failed : Type 0) (t u : HostContents) (e : Refusal)
     → IsRefused failed (ComesTo failed old new command t) t e u → e ≡ TooManyTurns → HasTurned old new command
@@ -60,7 +74,7 @@ has_turned old new (Merge out world files) failed t u e refused is =
     elim refused [
       | inl before ↦ elim before.1 [
         | inl memory ↦ absurd (cc)
-        | inr comes ↦ merge_turned old.links new.links out world (length files) e comes is
+        | inr comes ↦ merge_turned old.links new.links out world (length files) e (refused_beside (ComesToMerge old.links new.links out world (length files)) e comes.0 comes.2 comes.1) is
       ]
       | inr failed ↦ absurd (let file = failed.1 in cc)
     ]
@@ -188,10 +202,11 @@ run_calmly before after command t old now counted status new calm run =
 -- so many links
 pub merge_as : (failed : Type 0) (links after : List LinkSeen) (out : List ℕ) (world count many : ℕ) (t : HostContents) (result : Result ⊤ Refusal) (new : Option HostContents)
     → count ≡ many
-    → Ends failed (ComesToMerge links after out world count) t result new
-    → Ends failed (ComesToMerge links after out world many) t result new
+    → beside.Ends failed (ComesToMerge links after out world count) t result new
+    → Ends failed (ComesBeside (ComesToMerge links after out world many)) t result new
 merge_as failed links after out world count many t result new same ends =
-    subst (λ n. Ends failed (ComesToMerge links after out world n) t result new) same ends
+    beside_ends failed (ComesToMerge links after out world many) t result new
+    (subst (λ n. beside.Ends failed (ComesToMerge links after out world n) t result new) same ends)
 
 pub pulls_as : (world count many : ℕ) (links after : List LinkSeen) → count ≡ many
     → (r : Result (List Edit) Refusal) × IsMerged world count links after r
@@ -205,19 +220,23 @@ lacks_as world count many links after same lacks = inr (subst (LacksForMerge lin
 -- this limit, and these files
 pub show_as : (failed : Type 0) (old after : Stage) (given limit board : ℕ) (names files : List (List ℕ)) (t : HostContents) (result : Result ⊤ Refusal) (new : Option HostContents)
     → given ≡ limit → names ≡ files
-    → Ends failed (ComesToShow failed old after t given board names) t result new
-    → Ends failed (ComesToShow failed old after t limit board files) t result new
+    → beside.Ends failed (ComesToShow failed old after t given board names) t result new
+    → Ends failed (ComesBeside (ComesToShow failed old after t limit board files)) t result new
 show_as failed old after given limit board names files t result new is same ends =
-    subst (λ n. Ends failed (ComesToShow failed old after t n board files) t result new) is
-    (subst (λ ns. Ends failed (ComesToShow failed old after t given board ns) t result new) same ends)
+    beside_ends failed (ComesToShow failed old after t limit board files) t result new
+    (subst (λ n. beside.Ends failed (ComesToShow failed old after t n board files) t result new) is
+    (subst (λ ns. beside.Ends failed (ComesToShow failed old after t given board ns) t result new) same ends))
 
 pub play_as : (failed : Type 0) (old after : Stage) (given limit board : ℕ) (chance : List ℕ) (names files : List (List ℕ)) (t : HostContents) (result : Result ⊤ Refusal) (new : Option HostContents)
     → given ≡ limit → names ≡ files
     → EndsPlaying failed old after t given board chance names result new
-    → EndsPlaying failed old after t limit board chance files result new
+    → Ends failed (ComesBeside (ComesToPlay failed old after t limit board chance files)) t result new
+    × (result ≡ Err Memory → LacksForPlay failed old after t limit board chance files)
 play_as failed old after given limit board chance names files t result new is same ends =
+    let all : EndsPlaying failed old after t limit board chance files result new =
     subst (λ n. EndsPlaying failed old after t n board chance files result new) is
-    (subst (λ ns. EndsPlaying failed old after t given board chance ns result new) same ends)
+    (subst (λ ns. EndsPlaying failed old after t given board chance ns result new) same ends) in
+    (beside_ends failed (ComesToPlay failed old after t limit board chance files) t result new all.0, all.1)
 
 -- memory was lacking for a board that was to be shown
 pub show_lacks : {S : Type 0} (look : S → Stage) (result : Result ⊤ Refusal) (old new : S) (before after : Option (List Bool))

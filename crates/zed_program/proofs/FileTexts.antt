@@ -4,25 +4,29 @@ use Rattle.zed_types.specs.declared.stamp.Stamp.{Stamp}
 use Rattle.zed_op.specs.declared.op.Edit.{Edit}
 use Rattle.zed_editfile.specs.declared.error.EditFileError.{EditFileError}
 use Rattle.zed_files.specs.declared.refusal.Refusal.{Refusal}
-use Rattle.zed_files.specs.declared.refusal.Refusal.TheVariants.{NoWorld}
+use Rattle.zed_files.specs.declared.refusal.Refusal.TheVariants.{Memory, NoWorld}
 use Rattle.zed_words.specs.declared.profile.Profile.{Profile}
 use Rattle.zed_words.specs.declared.profile.Profile.TheVariants.{Usual, Big}
 use Rattle.zed_export.specs.declared.error.ExportError.{ExportError}
-use Rattle.zed_export.specs.Limits as limits
 use Rattle.std.proofs.Common.{◌≡◌, ◌∙◌, ◌==◌, ◌<◌, ◌≤◌, ◌^◌, ℕ, Bool, true, false, List, [], ◌∷◌, ◌++◌, length, lit≤, Option, Some, None, Result, Ok, Err, refl, ap, ap₂, sym, subst, map, arith, inl, inr, ◌≢◌}
-use Rattle.std.specs.Prelude.{not, Contains}
+use Rattle.std.specs.Prelude.{◌⊎◌, not, Contains}
 use Rattle.std.proofs.lemmas.List.Elements.{Contains-append_left, Contains-append_right}
 use Rattle.std.proofs.lemmas.Bool.{ne_eqb}
 use Rattle.zed_op.specs.Set.{Agrees, set_of}
 use Rattle.zed_editfile.specs.Stream.{AreRecords, IsTextOf, Progress, Reads, ending, is_other}
 use Rattle.zed_document.specs.Delivery.{IsFirstClash}
-use Rattle.zed_files.specs.Collected.{IsCollected}
+use Rattle.zed_files.specs.Collected.{Collects, IsCollected}
 use Rattle.zed_files.specs.Files.{IsFile, IsStream, Stream, edits_then, end_by, joined, stream_after, AreTextsOf}
 use Rattle.zed_program.specs.Outcome.{ComesTo, EndsCalmly, HasStatus}
-use Rattle.zed_files.specs.Effects.{Effect, written_to}
-use Rattle.zed_worlds.specs.Made.{file_of, made_of, unless_over, writes_world}
+use Rattle.zed_driver.specs.declared.command.Stop.{Stop}
+use Rattle.zed_driver.specs.Effects.{Effect, after as left_by, writes}
+use Rattle.zed_refusal.specs.declared.reason.Reason.{Reason}
+use Rattle.zed_files.specs.Refusals.{refused_as, stop_refusal}
+use Rattle.zed_files.specs.Tells.{told_of}
+use Rattle.cmd_save.specs.Made.{file_of, refused_as as exported_as, saves, writes_world}
 use Rattle.zed_host.specs.HostContents.{HostContents, file_in}
 use Rattle.zed_program.specs.Devices.{Devices}
+use Rattle.zed_files.proofs.Answered.{files_come}
 use Rattle.zed_words.specs.Commands.{Save}
 use Rattle.zed_words.specs.Laws.{with_option}
 use Rattle.zed_program.specs.Limit.{limit_of}
@@ -30,12 +34,11 @@ use Rattle.zed_files.specs.Lines.{bytes_line}
 use Rattle.zed_host.proofs.ReadFiles.{reads_are}
 use Rattle.zed_program.specs.Saving.{AsksToSave, SavedReadsBack, SavesSet}
 use Rattle.zed_world.specs.Reading.{world_at}
-use Rattle.zed_world.specs.Writing.{world_text}
 use Rattle.zed_edit.specs.Replay.{replay}
 use Rattle.zed_op.specs.Sizes.{HaveSizes}
 use Rattle.zed_link.proofs.Readings.{records_fit}
 use Rattle.zed_export.specs.World.{world_of}
-use Rattle.zed_export.specs.Limits.{refusal_of, saved}
+use Rattle.zed_export.specs.Limits.{saved}
 use Rattle.zed_export.specs.Headline.{AreAuthored, AuthoredIsRead}
 
 -- an option makes words longer
@@ -139,29 +142,47 @@ none_saved s set is collected =
       | inr whole ↦ whole.1
     ]
 
-none_made : (limit : ℕ) → file_of limit (set_of []) ≡ Err NoWorld
-none_made limit = refl
+-- what comes of a set, with the refusal that is told
+told_as : (tells : List Edit → Result Effect (Stop Reason)) (set : Result (List Edit) (Stop Reason)) (es : List Edit) → refused_as set ≡ Ok es
+    → refused_as (told_of tells set) ≡ refused_as (tells es)
+told_as tells (Ok fs) es is = let same : fs ≡ es = cc in ap (λ gs. refused_as (tells gs)) same
+told_as tells (Err e) es is = absurd (cc)
 
--- so the world file of their set is what `save` writes, or its first limit is told
+none_told : (tells : List Edit → Result Effect (Stop Reason)) (set : Result (List Edit) (Stop Reason)) → refused_as set ≡ Err NoWorld
+    → refused_as (told_of tells set) ≡ Err NoWorld
+none_told tells (Ok fs) is = absurd (cc)
+none_told tells (Err e) is = let same : stop_refusal e ≡ NoWorld = cc in ap (λ f. Err f) same
+
+none_made : (limit : ℕ) (out : List ℕ) → refused_as (saves limit out (set_of [])) ≡ Err NoWorld
+none_made limit out = refl
+
+-- so the world file of their set is what `save` writes, or its first limit is told; or memory ran out
 saved_set : (old new : Devices) → WrittenIsRead
     → (t : HostContents) (profile : Profile) (out : List ℕ) (names : List (List ℕ)) (n : ℕ) (lists : List (List Edit)) (r : Result Effect Refusal)
     → AreTextsOf n lists (map (file_in t) names) → n < 2 ^ 64 → AreRecords (joined lists) → Agrees (joined lists)
-    → ComesTo ⊥ old new (Save profile out names) t r → r ≡ writes_world out (file_of (limit_of profile) (set_of (joined lists)))
-saved_set old new law t profile out names n [] r texts small good agrees comes =
-    let made = comes.1 in
-    let collects = made.1 in
-    let stream = collects.1 in
-    let reads = reads_are t names stream.0 stream.1 ∙ no_files n (map (file_in t) names) texts in
-    let set = none_saved collects.0 made.0 (subst (λ files. IsStream None files collects.0) reads stream.2) collects.2 in
-    comes.2 ∙ ap (writes_world out) (made.2 ∙ ap (made_of (file_of (limit_of profile))) set ∙ sym (none_made (limit_of profile)))
-saved_set old new law t profile out names n (es ∷ lists) r texts small good agrees comes =
-    let made = comes.1 in
-    let collects = made.1 in
-    let stream = collects.1 in
-    let reads = reads_are t names stream.0 stream.1 in
-    let read = texts_are law n es lists (map (file_in t) names) collects.0 small good texts (subst (λ files. IsStream None files collects.0) reads stream.2) in
-    let set : made.0 ≡ Ok (set_of (joined (es ∷ lists))) = set_is collects.0 (joined (es ∷ lists)) made.0 read agrees collects.2 in
-    comes.2 ∙ ap (writes_world out) (made.2 ∙ ap (made_of (file_of (limit_of profile))) set)
+    → ComesTo ⊥ old new (Save profile out names) t r
+    → (r ≡ refused_as (saves (limit_of profile) out (set_of (joined lists)))) ⊎ (r ≡ Err Memory)
+saved_set old new law t profile out names n lists r texts small good agrees comes =
+    elim (files_come ⊥ t (saves (limit_of profile) out) names comes.0 comes.1) [
+      | inl set ↦ inl (comes.2 ∙ ap refused_as set.2 ∙ made lists texts good agrees set.0 set.1)
+      | inr lack ↦ inr (comes.2 ∙ ap refused_as lack.0)
+    ]
+  where
+    made : (lists : List (List Edit)) → AreTextsOf n lists (map (file_in t) names) → AreRecords (joined lists) → Agrees (joined lists)
+        → (set : Result (List Edit) (Stop Reason)) → Collects ⊥ t names (refused_as set)
+        → refused_as (told_of (saves (limit_of profile) out) set) ≡ refused_as (saves (limit_of profile) out (set_of (joined lists)))
+    made [] texts good agrees set collects =
+        let stream = collects.1 in
+        let reads = reads_are t names stream.0 stream.1 ∙ no_files n (map (file_in t) names) texts in
+        none_told (saves (limit_of profile) out) set
+        (none_saved collects.0 (refused_as set) (subst (λ files. IsStream None files collects.0) reads stream.2) collects.2)
+        ∙ sym (none_made (limit_of profile) out)
+    made (es ∷ lists) texts good agrees set collects =
+        let stream = collects.1 in
+        let reads = reads_are t names stream.0 stream.1 in
+        let read = texts_are law n es lists (map (file_in t) names) collects.0 small good texts (subst (λ files. IsStream None files collects.0) reads stream.2) in
+        told_as (saves (limit_of profile) out) set (set_of (joined (es ∷ lists)))
+        (set_is collects.0 (joined (es ∷ lists)) (refused_as set) read agrees collects.2)
 
 -- and `run` ends so
 pub run_of_texts : (before after : Devices) → WrittenIsRead
@@ -170,9 +191,10 @@ pub run_of_texts : (before after : Devices) → WrittenIsRead
     → SavesSet profile out t (joined lists) status new
 run_of_texts before after law words t profile out n lists status new asks ended =
     elim ended [
-      | inl done ↦ (
-          let is = saved_set before after law t profile out asks.files n lists done.0 asks.spelled asks.is_number asks.records asks.agree done.1 in
-          inl (subst (λ r. HasStatus r t status new) is done.2))
+      | inl done ↦ elim (saved_set before after law t profile out asks.files n lists done.0 asks.spelled asks.is_number asks.records asks.agree done.1) [
+        | inl is ↦ inl (subst (λ r. HasStatus r t status new) is done.2)
+        | inr lack ↦ inr (subst (λ r. HasStatus r t status new) lack done.2)
+      ]
       | inr memory ↦ inr memory
     ]
 
@@ -186,14 +208,11 @@ low Usual = lit≤ tt
 low Big = lit≤ tt
 
 saved_at : (limit : ℕ) (es : List Edit) (bytes : List ℕ) → file_of limit es ≡ Ok bytes → saved limit (replay es) ≡ Ok bytes
-saved_at limit es bytes is = go (refusal_of limit (replay es)) is
+saved_at limit es bytes is = go (saved limit (replay es)) is
   where
-    text : List ℕ
-    text = world_text (world_of (replay es))
-
-    go : (o : Option ExportError) → unless_over o text ≡ Ok bytes → limits.unless_over o text ≡ Ok bytes
-    go None e = let same : text ≡ bytes = cc in ap (λ x. Ok x) same
-    go (Some refusal) e = absurd (cc)
+    go : (made : Result (List ℕ) ExportError) → exported_as made ≡ Ok bytes → made ≡ Ok bytes
+    go (Ok text) e = let same : text ≡ bytes = cc in ap (λ x. Ok x) same
+    go (Err refusal) e = absurd (cc)
 
 -- where `run` ends well, the file is read as the exported world
 pub reads_back : AuthoredIsRead
@@ -212,9 +231,9 @@ reads_back law words t profile out n lists status new asks saves well =
     authored : AreAuthored es
     authored = record { fit = records_fit es asks.records; sizes = records_have_sizes es asks.records; agree = asks.agree }
 
-    go : (f : Result (List ℕ) Refusal) → file_of (limit_of profile) (set_of es) ≡ f → HasStatus (writes_world out f) t status new
+    go : (f : Result (List ℕ) (Stop Reason)) → file_of (limit_of profile) (set_of es) ≡ f → HasStatus (refused_as (writes_world out f)) t status new
         → (bytes : List ℕ)
-        × (new ≡ Some (written_to out bytes (bytes_line (length bytes)) t))
+        × (new ≡ Some (left_by (writes out bytes (bytes_line (length bytes))) t))
         × (world_at bytes ≡ Ok (world_of (replay (set_of es))))
     go (Ok bytes) is done =
         (bytes, done.1, law (limit_of profile) es bytes authored (low profile) (saved_at (limit_of profile) (set_of es) bytes is))

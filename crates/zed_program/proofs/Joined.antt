@@ -26,11 +26,12 @@ use Rattle.zed_files.specs.Files.{AreTextsOf, IsTextIn, joined}
 use Rattle.zed_host.specs.HostContents.{HostContents}
 use Rattle.zed_program.specs.Joining.{AsksToMerge, HasLink, IsOfLinks, MergesSet, left_on}
 use Rattle.zed_action.specs.Deeds.{with_edits}
-use Rattle.zed_making.specs.Merged.{IsMerged, PullsEach, empty_document, writes_joined}
+use Rattle.zed_program.specs.Merged.{IsMerged, PullsEach, empty_document, writes_joined}
 use Rattle.zed_program.specs.Outcome.{EndsCalmly, HasStatus}
-use Rattle.zed_files.specs.Effects.{Effect}
+use Rattle.zed_driver.specs.Effects.{Effect}
+use Rattle.zed_program.specs.Ends.{as_effect}
 use Rattle.zed_files.specs.Refusals.{link_refusal}
-use Rattle.zed_making.proofs.Pulls.{not_fewer}
+use Rattle.zed_program.proofs.Pulls.{not_fewer}
 use Rattle.zed_program.proofs.FileTexts.{no_clash, records_left, records_right}
 
 -- a link that holds a text tells its ends
@@ -161,12 +162,12 @@ as_many_lists count world links lists enough held =
     as_many_texts world lists (map left_on (take count links)) held ∙ length-map (take count links) left_on ∙ length-take-le count links enough
 
 has_status : (out : List ℕ) (world count : ℕ) (links : List LinkSeen) (lists : List (List Edit)) (m : Result (List Edit) Refusal) (r : Result Effect Refusal) (t : HostContents) (status : ℕ) (new : Option HostContents)
-    → length lists ≡ count → JoinedOr (take count links) [] lists m → r ≡ writes_joined out world m → HasStatus r t status new
+    → length lists ≡ count → JoinedOr (take count links) [] lists m → r ≡ as_effect (writes_joined out world m) → HasStatus r t status new
     → MergesSet out t world links lists status new
 has_status out world count links lists m r t status new many is made has =
     elim is [
-      | inl all ↦ inl (subst (λ x. HasStatus x t status new) (made ∙ ap (writes_joined out world) all) has)
-      | inr e ↦ inr (e.0, subst (λ n. IsOfLinks (take n links) e.0) (sym many) e.1, subst (λ x. HasStatus x t status new) (made ∙ ap (writes_joined out world) e.2) has)
+      | inl all ↦ inl (subst (λ x. HasStatus x t status new) (made ∙ ap (λ m. as_effect (writes_joined out world m)) all) has)
+      | inr e ↦ inr (e.0, subst (λ n. IsOfLinks (take n links) e.0) (sym many) e.1, subst (λ x. HasStatus x t status new) (made ∙ ap (λ m. as_effect (writes_joined out world m)) e.2) has)
     ]
 
 -- `run` ends so
@@ -177,8 +178,8 @@ pub run_of_links : FilesArePulled → DeliveriesGoOn → DeliveriesComeToSets
 run_of_links files more sets words before after t out world lists status new asks ended =
     elim ended [
       | inl done ↦ (
-          let comes = done.1 in
+          let comes = done.1.1 in
           has_status out world (length asks.files) before.links lists comes.0 done.0 t status new (as_many_lists (length asks.files) world before.links lists asks.enough asks.held)
-          (merged_are files more sets world (length asks.files) before.links after.links lists comes.0 asks.is_number asks.enough asks.held asks.records asks.agree comes.1) comes.2 done.2)
+          (merged_are files more sets world (length asks.files) before.links after.links lists comes.0 asks.is_number asks.enough asks.held asks.records asks.agree comes.1) (done.1.2 ∙ ap as_effect comes.2) done.2)
       | inr memory ↦ inr (Memory, inl refl, memory)
     ]

@@ -4,3 +4,10 @@ pub mod Endings
 pub mod Faults
 pub mod FileTexts
 pub mod Joined
+pub mod MergeEndings
+pub mod MergedOff
+pub mod MergedOthers
+pub mod Plain
+pub mod Pulls
+pub mod Stops
+pub mod Under

@@ -4,10 +4,10 @@ use Rattle.zed_files.specs.declared.refusal.Refusal.{Refusal}
 use Rattle.std.specs.Prelude.{◌≡◌, ◌<◌, ◌⊎◌, ℕ, Bool, true, false, List, Option, Some, Result, length}
 use Rattle.zed_session.specs.Devices.{Foretold}
 use Rattle.zed_session.specs.Links.{LinkSeen}
-use Rattle.zed_making.specs.Merged.{IsMerged}
+use Rattle.zed_program.specs.Merged.{IsMerged}
 use Rattle.zed_host.specs.Calls.{Call}
 use Rattle.zed_program.specs.Asked.{Complains}
-use Rattle.zed_worlds.specs.Shown.{IsOfPlay}
+use Rattle.cmd_show.specs.Shown.{IsOfPlay}
 use Rattle.zed_words.specs.Commands.{Command, Merge, Show, Play}
 
 -- whether words ask for a command that calls links: to merge

@@ -3,7 +3,7 @@ use Rattle.zed_play.specs.declared.key.Key.{Key}
 use Rattle.zed_screen.specs.declared.frame.Frame.{Frame}
 use Rattle.std.specs.Prelude.{Bool, List, Option}
 use Rattle.zed_session.specs.Links.{LinkSeen}
-use Rattle.zed_worlds.specs.Stage.{Stage, stage}
+use Rattle.cmd_show.specs.Stage.{Stage, stage}
 
 -- links as they are seen, and a stage as it is told: before a command, or when it has ended
 pub record Devices : Type 0 where

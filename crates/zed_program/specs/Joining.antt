@@ -11,8 +11,9 @@ use Rattle.zed_session.specs.Links.{LinkSeen}
 use Rattle.zed_words.specs.Commands.{Merge, command_of}
 use Rattle.zed_files.specs.Files.{joined, AreTextsOf}
 use Rattle.zed_host.specs.HostContents.{HostContents}
+use Rattle.zed_program.specs.Ends.{as_effect}
 use Rattle.zed_program.specs.Outcome.{HasStatus}
-use Rattle.zed_making.specs.Merged.{writes_joined}
+use Rattle.zed_program.specs.Merged.{writes_joined}
 
 -- the bytes that are left to read on a link, if it tells them
 abbrev pub left_on : LinkSeen → Option (List ℕ)
@@ -40,5 +41,5 @@ IsOfLinks links e = (e ≡ Memory) ⊎ ((e ≡ LinkFault) × HasLink MayFail lin
 -- is long took too many reads
 abbrev pub MergesSet : List ℕ → HostContents → ℕ → List LinkSeen → List (List Edit) → ℕ → Option HostContents → Type 0
 MergesSet out t world links lists status new =
-    HasStatus (writes_joined out world (Ok (set_of (joined lists)))) t status new
+    HasStatus (as_effect (writes_joined out world (Ok (set_of (joined lists))))) t status new
     ⊎ ((e : Refusal) × IsOfLinks (take (length lists) links) e × HasStatus (Err e) t status new)

@@ -1,8 +1,11 @@
 pub mod Asked
 pub mod Called
 pub mod Devices
+pub mod Ends
 pub mod Faults
 pub mod Joining
 pub mod Limit
+pub mod Merged
 pub mod Outcome
 pub mod Saving
+pub mod Under

@@ -9,24 +9,21 @@ use Rattle.zed_words.specs.declared.words.ParseError.{ParseError}
 use Rattle.zed_words.specs.declared.words.ParseError.TheVariants as parse
 use Rattle.zed_host.specs.Counting.{Rose}
 use Rattle.zed_host.specs.HostContents.{HalfComplained, HostContents, StillTells, with_complaint}
-use Rattle.zed_words.specs.Commands.{Command, Save, Check, New, Edit as EditFile, Merge, Show, Play}
-use Rattle.zed_files.specs.Effects.{Effect, Ends, after as left_by, IsRefused}
-use Rattle.zed_making.specs.Edited.{ComesToEdit}
-use Rattle.zed_making.specs.Fresh.{ComesToNew}
-use Rattle.zed_making.specs.Merged.{ComesToMerge, LacksForMerge, MadeMostReads}
-use Rattle.zed_worlds.specs.Made.{ComesToSave, ComesToCheck}
-use Rattle.zed_worlds.specs.Shown.{ComesToShow, ComesToPlay, LacksForPlay}
+use Rattle.zed_words.specs.Commands.{Command, Merge, Show, Play}
+use Rattle.zed_driver.specs.Effects.{Effect, after as left_by}
+use Rattle.zed_program.specs.Merged.{ComesToMerge, LacksForMerge, MadeMostReads}
+use Rattle.cmd_show.specs.Shown.{ComesToShow, ComesToPlay, LacksForPlay}
+use Rattle.zed_program.specs.Ends.{ComesBeside, ComesUnder, Ends, IsRefused}
+use Rattle.zed_program.specs.Under.{ComesOf, WantsOf}
 
 -- what a command comes to, by what its devices tell before it and then: its effect, or the first refusal
 abbrev pub ComesTo : Type 0 → Devices → Devices → Command → HostContents → Result Effect Refusal → Type 0
-ComesTo failed old new (Save profile out files) t r = ComesToSave failed t (limit_of profile) out files r
-ComesTo failed old new (Check profile files) t r = ComesToCheck failed t (limit_of profile) files r
-ComesTo failed old new (New out world from name) t r = ComesToNew failed t out world from name r
-ComesTo failed old new (EditFile file replica words) t r = ComesToEdit failed t file replica words r
-ComesTo failed old new (Merge out world files) t r = ComesToMerge old.links new.links out world (length files) r
-ComesTo failed old new (Show profile board files) t r = ComesToShow failed old.stage new.stage t (limit_of profile) board files r
+ComesTo failed old new (Merge out world files) t r = ComesBeside (ComesToMerge old.links new.links out world (length files)) r
+ComesTo failed old new (Show profile board files) t r =
+    ComesBeside (ComesToShow failed old.stage new.stage t (limit_of profile) board files) r
 ComesTo failed old new (Play profile board chance files) t r =
-    ComesToPlay failed old.stage new.stage t (limit_of profile) board chance files r
+    ComesBeside (ComesToPlay failed old.stage new.stage t (limit_of profile) board chance files) r
+ComesTo failed old new command t r = ComesUnder failed t (WantsOf command) (ComesOf command) r
 
 -- a text is on the standard error, or the host failed at it
 abbrev pub IsComplained : Type 0 → List ℕ → HostContents → Option HostContents → Type 0

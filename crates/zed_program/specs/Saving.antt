@@ -12,8 +12,9 @@ use Rattle.zed_files.specs.Files.{joined, AreTextsOf}
 use Rattle.zed_program.specs.Limit.{limit_of}
 use Rattle.zed_files.specs.Lines.{bytes_line}
 use Rattle.zed_program.specs.Outcome.{HasStatus}
-use Rattle.zed_worlds.specs.Made.{file_of, writes_world}
-use Rattle.zed_files.specs.Effects.{written_to}
+use Rattle.zed_driver.specs.Effects.{after as left_by, writes}
+use Rattle.zed_files.specs.Refusals.{refused_as}
+use Rattle.cmd_save.specs.Made.{saves}
 use Rattle.zed_host.specs.HostContents.{HostContents, file_in}
 use Rattle.zed_words.specs.Commands.{Save, command_of}
 
@@ -29,10 +30,10 @@ pub record AsksToSave (words : List (List ℕ)) (t : HostContents) (profile : Pr
 -- the file of the set of these edits is written, or the first limit told that it is over in this profile; or memory ran out
 abbrev pub SavesSet : Profile → List ℕ → HostContents → List Edit → ℕ → Option HostContents → Type 0
 SavesSet profile out t es status new =
-    HasStatus (writes_world out (file_of (limit_of profile) (set_of es))) t status new ⊎ HasStatus (Err Memory) t status new
+    HasStatus (refused_as (saves (limit_of profile) out (set_of es))) t status new ⊎ HasStatus (Err Memory) t status new
 
 -- with status 0 a file was written that is read as the exported world of the set of these edits
 abbrev pub SavedReadsBack : List ℕ → HostContents → List Edit → ℕ → Option HostContents → Type 0
 SavedReadsBack out t es status new = status ≡ 0
-    → (bytes : List ℕ) × (new ≡ Some (written_to out bytes (bytes_line (length bytes)) t))
+    → (bytes : List ℕ) × (new ≡ Some (left_by (writes out bytes (bytes_line (length bytes))) t))
     × (world_at bytes ≡ Ok (world_of (replay (set_of es))))

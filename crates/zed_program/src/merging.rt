@@ -6,17 +6,17 @@ ghost use Rattle.zed_session.specs.Links.{PullsOver, seen};
 ghost use Rattle.zed_host.specs.Counting.{Rose};
 ghost use Rattle.zed_files.specs.Faults.{TellsFailures};
 ghost use Rattle.zed_host.specs.HostContents.{HostContents};
-ghost use Rattle.zed_making.specs.Merged.{ComesToMerge, IsMerged, LacksForMerge};
+ghost use Rattle.zed_program.specs.Merged.{ComesToMerge, IsMerged, LacksForMerge};
 ghost use Rattle.zed_files.specs.Asked.{Asks, refusal_in, writing};
 ghost use Rattle.zed_files.specs.Effects.{Ends};
 ghost use Rattle.zed_files.specs.Refusals.{IsOffStage};
 
+use crate::writing::write_document;
 use std::alloc::Global;
 use zed_document::{Document, Intake};
 use zed_files::{Refusal, joined_told};
 use zed_host::Host;
 use zed_link::{Link, LinkError, Pulled, receive_into};
-use zed_making::write_document;
 
 // Pulls the edits of a link into a document.
 fn pull_over(

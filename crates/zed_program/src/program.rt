@@ -5,24 +5,27 @@ ghost use Rattle.zed_op.specs.declared.op.Edit.{Edit as TheEdit};
 ghost use Rattle.zed_session.specs.Links.{seen};
 ghost use Rattle.zed_files.specs.Files.{joined};
 ghost use Rattle.zed_program.specs.Joining.{AsksToMerge, MergesSet};
-ghost use Rattle.zed_files.specs.Asked.{Asks, refusal_in};
-ghost use Rattle.zed_program.specs.Asked.{Complains, ComplainsOf, RunAsks, last_of, reads_of};
+ghost use Rattle.zed_files.specs.Asked.{refusal_in};
+ghost use Rattle.zed_program.specs.Asked.{AsksCommand, Complains, ComplainsOf, RunAsks, RunSteps, StepsCommand};
 ghost use Rattle.zed_program.specs.Called.{CallsDevices, IdleUnlessPlayed, LacksLinks, PullsLinks};
 ghost use Rattle.zed_program.specs.Devices.{devices};
 ghost use Rattle.zed_program.specs.Faults.{TellsFault};
 ghost use Rattle.zed_program.specs.Outcome.{EndsCalmly, EndsCommand, EndsRun, IsComplained, IsTold, SaysWhy, status_of};
 ghost use Rattle.zed_program.specs.Saving.{AsksToSave, SavedReadsBack, SavesSet};
+ghost use Rattle.zed_driver.specs.Hosts.{hosts};
 ghost use Rattle.zed_host.specs.Counting.{Counts, NothingFailed, Rose};
 ghost use Rattle.zed_files.specs.Faults.{NoneForgotten, TellsFailures};
 ghost use Rattle.zed_files.specs.Refusals.{is_key_fault, is_of_keys, is_of_screen, is_screen_fault};
 ghost use Rattle.zed_host.specs.HostContents.{HostContents};
-ghost use Rattle.zed_worlds.specs.Shown.{IsOfPlay};
+ghost use Rattle.cmd_show.specs.Shown.{IsOfPlay};
 ghost use Rattle.zed_words.specs.declared.profile.Profile.{Profile as TheProfile};
 ghost use Rattle.zed_words.specs.Laws.{with_option};
 ghost use Rattle.zed_words.specs.Commands.{Command as Asked, Save, command_of, is_plain, meaning_of};
 
+use crate::driving::{check_files, edit_file, make_new, save_files};
 use crate::limit::limit_of;
 use crate::merging::merge;
+use cmd_show::{play, show};
 use std::alloc::Global;
 use zed_document::deliveries_come_to_sets;
 use zed_editfile::one_reading;
@@ -30,10 +33,8 @@ use zed_export::saved_is_read;
 use zed_files::{Refusal, line_of};
 use zed_host::Host;
 use zed_link::{Link, deliveries_go_on, files_are_pulled};
-use zed_making::{edit, make_new};
 use zed_session::{Keys, Screen};
 use zed_words::{Command, ParseError, parse, plain_words_save};
-use zed_worlds::{check, play, save, show};
 
 const MEMORY_LINE: &[u8] = b"zzted: Memory\n";
 
@@ -86,8 +87,10 @@ fn act<H: Host>(
         let after = devices (map (λ link. seen (ends link) (reads link)) links.new.items)
         (shown screen.new) (screen_foretells screen.new) (left keys.new) (keys_foretell keys.new) in
         EndsCommand failed before after (meaning_of command.now) t result (H.contents host.new) }
-    ensures asked { Asks H.called (reads_of (meaning_of command.now))
-        (last_of (meaning_of command.now)) (refusal_in result) host.old host.new }
+    ensures asked { AsksCommand H.called (meaning_of command.now) (refusal_in result)
+        host.old host.new }
+    ensures steps { StepsCommand (hosts H.contents H.called H.failed H.faults)
+        (meaning_of command.now) (refusal_in result) host.old host.new }
     ensures devices { CallsDevices (Some (meaning_of command.now)) (status_of result)
         (map (λ link. seen (ends link) (reads link)) links.old.items)
         (map (λ link. seen (ends link) (reads link)) links.new.items)
@@ -113,13 +116,8 @@ fn act<H: Host>(
             profile,
             out,
             files,
-        } => save(alloc, host, limit_of(*profile), out, files.as_slice()),
-        Command::Check { profile, files } => check(
-            alloc,
-            host,
-            limit_of(*profile),
-            files.as_slice(),
-        ),
+        } => save_files(alloc, host, *profile, out, files.as_slice()),
+        Command::Check { profile, files } => check_files(alloc, host, *profile, files.as_slice()),
         Command::New {
             out,
             world,
@@ -130,7 +128,7 @@ fn act<H: Host>(
             file,
             replica,
             words,
-        } => edit(alloc, host, file, *replica, words.as_slice()),
+        } => edit_file(alloc, host, file, *replica, words.as_slice()),
         Command::Merge { out, world, files } => merge(
             alloc,
             host,
@@ -188,6 +186,8 @@ fn run_words<H: Host>(
         result (H.contents host.new) }
     ensures asked { RunAsks H.called (command_of (map string_bytes words.now))
         result host.old host.new }
+    ensures steps { RunSteps (hosts H.contents H.called H.failed H.faults)
+        (command_of (map string_bytes words.now)) result host.old host.new }
     ensures devices { CallsDevices (command_of (map string_bytes words.now)) result
         (map (λ link. seen (ends link) (reads link)) links.old.items)
         (map (λ link. seen (ends link) (reads link)) links.new.items)
@@ -254,6 +254,10 @@ pub fn run<H: Host>(
     // What was asked of the host, call by call.
     ensures asked { RunAsks H.called (command_of (map string_bytes words.now))
         result host.old host.new }
+
+    // The same for a command under the driver, step by step: no file is read behind one that is refused.
+    ensures steps { RunSteps (hosts H.contents H.called H.failed H.faults)
+        (command_of (map string_bytes words.now)) result host.old host.new }
 
     // What was asked of the devices.
     ensures devices { CallsDevices (command_of (map string_bytes words.now)) result

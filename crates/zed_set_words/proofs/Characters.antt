@@ -5,7 +5,7 @@ use Rattle.std.specs.List.{filter_map, list_all}
 use Rattle.std.proofs.lemmas.Bool.{le-leb}
 use Rattle.std.proofs.lemmas.Bool.Decides.{nat_tests}
 use Rattle.std.proofs.lemmas.List.{at_drop_all, at_drop_more}
-use Rattle.zed_program_text.specs.Characters.{byte_of, is_known}
+use Rattle.zed_plaintext.specs.Characters.{byte_of, is_known}
 use Rattle.zed_set_words.specs.Strings.{are_bytes}
 
 -- where a character stands in a list

@@ -2,7 +2,7 @@
 use Rattle.std.specs.Prelude.{ℕ, nat_le, Bool, ◌&&◌, List, length, Option, Some, None, if◌then◌else◌}
 use Rattle.std.specs.List.{filter_map, list_all}
 use Rattle.std.specs.Str.{chars}
-use Rattle.zed_program_text.specs.Characters.{byte_of, is_known}
+use Rattle.zed_plaintext.specs.Characters.{byte_of, is_known}
 
 -- the bytes of the characters of a word, as a program's text has them: those of code page 437
 abbrev pub bytes_in : List ℕ → List ℕ

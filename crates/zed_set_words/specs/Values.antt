@@ -2,7 +2,7 @@
 use Rattle.std.specs.Prelude.{ℕ, zero, suc, ℤ, pos, negsuc, ◌+◌, ◌*◌, ◌-◌, nat_le, Bool, true, false, ◌&&◌, ◌==◌, if◌then◌else◌, List, [], ◌∷◌, length, map, codes, Option, Some, None, option_and_then, option_map}
 use Rattle.std.specs.Str.{bytes_eq}
 use Rattle.std.specs.Char.{to_ascii_lowercase}
-use Rattle.zed_digits.specs.Digits.{digits_of}
+use Rattle.zed_plaintext.specs.Digits.{digits_of}
 use Rattle.zed_types.specs.declared.names.Name.{Name}
 use Rattle.zed_types.specs.declared.names.TextId.{TextId}
 use Rattle.zed_types.specs.Elements.{row_of}

@@ -2,7 +2,7 @@
 ghost use Rattle.std.specs.Prelude.{◌≡◌, ◌≢◌, ◌∷◌, ◌≤◌, ℕ, List, IfSome, MatchOption, option_map, pos};
 ghost use Rattle.zed_set_words.specs.Values.{below_zero as less, has_idle_zero as idles, integer_of, number_of};
 
-use zed_digits::digits;
+use zed_plaintext::digits;
 
 /// Whether a 0 is in front of something.
 fn has_idle_zero(word: &[u8]) -> bool

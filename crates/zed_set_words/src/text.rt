@@ -5,7 +5,7 @@ ghost use Rattle.zed_set_words.specs.Strings.{are_bytes as fit, bytes_in, string
 
 use std::alloc::{AllocError, Global};
 use std::marker::Model;
-use zed_program_text::byte_of;
+use zed_plaintext::byte_of;
 use zed_types::Bytes;
 
 /// A word that is a string, which contracts see as its bytes.

@@ -1,3 +1,4 @@
 pub mod Arrivals
+pub mod ByName
 pub mod Fields
 pub mod Stats

@@ -5,7 +5,7 @@ use Rattle.std.specs.List.{filter, position}
 use Rattle.zed_types.specs.declared.names.Name.{Name}
 use Rattle.zed_types.specs.declared.names.StatId.{StatId}
 use Rattle.zed_types.specs.Names.{same_stat}
-use Rattle.zed_names.specs.ByName as names
+use Rattle.zed_stats.specs.ByName as names
 use Rattle.zed_stats.specs.declared.stat.LiveStat.{LiveStat}
 
 -- what names a stat

@@ -6,10 +6,10 @@ ghost use Rattle.zed_stats.specs.Stats.{has as is_there, add as added, change, n
 
 use crate::field::StatField;
 use crate::stat::{LiveStat, StatValues};
+use crate::{add, seek};
 use indexmap::IndexMap;
 use std::alloc::{AllocError, Global};
 use std::marker::Model;
-use zed_names::{add, seek};
 use zed_types::{Stamp, StatId, StatSetting};
 
 /// The stats of a board, removed ones too, in the order of their names: by stamp, and then by index.

@@ -1,1 +1,5 @@
 pub mod Counted
+pub mod Held
+pub mod Loss
+pub mod Names
+pub mod Steps

@@ -3,6 +3,7 @@ ghost use Rattle.std.specs.Prelude.{◌≡◌, None, false, is_err};
 ghost use Rattle.zed_host.specs.Counting.{Counts, Rose};
 ghost use Rattle.zed_system.specs.Counted.{called_in, failed_in, nothing_failed};
 
+use crate::NamedFile;
 use crate::causes::{named_twice, of_file};
 use crate::last::{Ending, Front, LastCall};
 use crate::place::Place;
@@ -10,7 +11,6 @@ use crate::reading::{Stop, read_whole};
 use std::fs;
 use std::io::{self, ErrorKind, Write};
 use std::marker::Model;
-use zed_disk::NamedFile;
 use zed_host::{Host, ReadError, WriteError};
 
 /// Files by their paths; `stdin` and `stdout` are the streams. It doesn't say what they hold. It
@@ -132,6 +132,27 @@ impl SystemHost {
     {
         let file = NamedFile::of(&self.rt, name)?;
         self.admit(name, Place::edited(file))
+    }
+
+    /// Lets the command read the file of a name and write it again, as by `edits`. It does neither if
+    /// this is one of the files of these other names, by any name, or that can't be found out.
+    ///
+    /// # Errors
+    /// Only `OutOfMemory`, as for `writes`.
+    pub fn edits_apart(&mut self, name: &str, others: &[&str]) -> io::Result<()>
+        ensures kept { self.new ≡ self.old }
+    {
+        let file = NamedFile::of(&self.rt, name)?;
+        let is_other = match file.is_led_to(&self.rt, others) {
+            Ok(is_led) => is_led || others.iter().any(|other| *other == name),
+            Err(error) if error.kind() == ErrorKind::OutOfMemory => return Err(error),
+            Err(_) => true,
+        };
+        let mut place = Place::edited(file);
+        if is_other {
+            place.refuse();
+        }
+        self.admit(name, place)
     }
 
     /// Lets the command write the file of a name, while it reads others over links. If one of these

@@ -1,12 +1,26 @@
-//! The host over real files and streams.
+//! The host over real files and streams: following links, locking, replacing a whole file, and keeping
+//! one that would be lost.
 #![tactic(auto)]
 
 mod causes;
+mod folder;
+mod fresh;
+mod hold;
 mod host;
+mod keeping;
 mod last;
+mod leftover;
+mod loss;
+mod named;
 mod old;
 mod place;
 mod reading;
 
+pub use folder::{Folder, Old, replace};
+pub use fresh::{write, write_keeping};
+pub use hold::{held, stands};
 pub use host::SystemHost;
+pub use keeping::KeptName;
 pub use last::{Ending, Front, LastCall};
+pub use loss::is_lost;
+pub use named::{FoundFile, NamedFile, leads_to};

@@ -1,11 +1,10 @@
 //! Whether the old file is kept when a command writes another one in its place.
 
 use crate::reading::{Stop, read_whole};
+use crate::{FoundFile, held, is_lost};
 use std::alloc::Global;
 use std::fs::{self, File};
 use std::io::{self, ErrorKind, Read};
-use zed_disk::{FoundFile, held};
-use zed_loss::is_lost;
 
 /// The first bytes of an edit file.
 const EDITS: [u8; 3] = *b"ZED";

@@ -3,9 +3,9 @@
 use crate::causes::{named_twice, of_standing};
 use crate::old::old_file;
 use crate::reading::{Stop, read_whole};
+use crate::{FoundFile, KeptName, NamedFile, held, leads_to, stands, write, write_keeping};
 use std::fs::File;
 use std::io::{self, ErrorKind, Seek};
-use zed_disk::{FoundFile, KeptName, NamedFile, held, leads_to, stands, write, write_keeping};
 
 /// How a command uses a file.
 #[derive(Clone, Copy, PartialEq, Eq)]

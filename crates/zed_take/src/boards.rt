@@ -6,7 +6,7 @@ use crate::plan_error::PlanError;
 use crate::ranks::{Ranked, plan_ranks};
 use crate::sight::SeenBoard;
 use std::alloc::{AllocError, Global};
-use zed_fresh::new_board;
+use zed_export::new_board;
 use zed_op::Op;
 use zed_types::BoardId;
 use zed_world::BoardData;

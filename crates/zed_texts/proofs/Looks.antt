@@ -6,7 +6,7 @@ use Rattle.std.proofs.lemmas.List.Sums.{sum_by-cons}
 use Rattle.indexmap.specs.IndexMap.{set_value_at}
 use Rattle.zed_types.specs.declared.names.TextId.{TextId}
 use Rattle.zed_types.specs.Names.{is_earlier}
-use Rattle.zed_names.specs.ByName.{put}
+use Rattle.zed_stats.specs.ByName.{put}
 use Rattle.zed_code.specs.Pieces.{Shown}
 use Rattle.zed_texts.specs.ByName.{text_name, text_in, add, add_all}
 use Rattle.zed_texts.specs.Looks.{greatest_sum, looks_of}

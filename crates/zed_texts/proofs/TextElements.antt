@@ -12,9 +12,9 @@ use Rattle.zed_code.specs.Pieces.{Shown}
 use Rattle.zed_code.specs.Text.{elements}
 use Rattle.zed_texts.specs.ByName.{text_name, text_in, add, add_all, change}
 use Rattle.zed_texts.specs.Texts.{Texts, elements_of, elements_or_none, IsWorked, IsUnworked, Grows, AllGrow}
-use Rattle.zed_names.specs.ByName.{put}
-use Rattle.zed_names.proofs.Changed.{changed, place_of}
-use Rattle.zed_names.proofs.Found.{in-change, in-add_all, apart}
+use Rattle.zed_stats.specs.ByName.{put}
+use Rattle.zed_stats.proofs.Changed.{changed, place_of}
+use Rattle.zed_stats.proofs.Found.{in-change, in-add_all, apart}
 use Rattle.zed_texts.proofs.TextNames.{only_text}
 
 -- ---- their elements

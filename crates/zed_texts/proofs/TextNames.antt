@@ -2,7 +2,7 @@
 use Rattle.std.proofs.Common.{ap}
 use Rattle.zed_types.specs.declared.names.Name.{Name}
 use Rattle.zed_types.specs.declared.names.TextId.{TextId}
-use Rattle.zed_names.specs.ByName.{IsOnlyName}
+use Rattle.zed_stats.specs.ByName.{IsOnlyName}
 use Rattle.zed_texts.specs.ByName.{text_name}
 
 abbrev text_at : Name → TextId

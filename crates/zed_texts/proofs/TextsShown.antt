@@ -16,7 +16,7 @@ use Rattle.zed_laws.proofs.OrderedLists.{ordered_are_their_members}
 use Rattle.zed_texts.specs.ByName.{text_name, text_in}
 use Rattle.zed_texts.specs.Texts.{Elements}
 use Rattle.zed_texts.specs.Shows.{shown_texts, ReplayedTextsAreShown}
-use Rattle.zed_names.proofs.Found.{apart}
+use Rattle.zed_stats.proofs.Found.{apart}
 
 -- a text of these elements
 abbrev with_name : TextId → List TextByte → Text

@@ -46,7 +46,7 @@ use Rattle.zed_code.specs.Text.{StandsAfter, IsNewStamp}
 use Rattle.zed_texts.specs.ByName.{text_name, text_in, change, add_all}
 use Rattle.zed_texts.specs.Texts.{Elements, named, texts_after, elements_or_none, IsReady}
 use Rattle.zed_texts.specs.Shows.{TextsShow, NoneIsEmpty, TextsTake, TextsAreReady}
-use Rattle.zed_names.proofs.Found.{in-change, in-add_all, rise-change, rise-add_all, apart}
+use Rattle.zed_stats.proofs.Found.{in-change, in-add_all, rise-change, rise-add_all, apart}
 use Rattle.zed_texts.proofs.TextNames.{only_text}
 
 -- ---- a text through edits that are all done

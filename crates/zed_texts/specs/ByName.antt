@@ -5,7 +5,7 @@ use Rattle.std.specs.declared.cmp.Ordering.{Ordering}
 use Rattle.zed_types.specs.declared.names.Name.{Name}
 use Rattle.zed_types.specs.declared.names.TextId.{TextId}
 use Rattle.zed_types.specs.Names.{same_text}
-use Rattle.zed_names.specs.ByName as names
+use Rattle.zed_stats.specs.ByName as names
 
 -- values of texts, each under the name of its text
 abbrev pub ByName : Type 0 → Type 0

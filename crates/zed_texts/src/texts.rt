@@ -20,7 +20,7 @@ use std::alloc::{AllocError, Global};
 use std::marker::Model;
 use zed_code::Text;
 use zed_edit::{Edit, Op, Text as PlainText, made_by};
-use zed_names::{add, add_each, find, seek};
+use zed_stats::{add, add_each, find, seek};
 use zed_types::{ByteRange, ElemId, Stamp, TextId};
 use zed_world::read_is_normal;
 

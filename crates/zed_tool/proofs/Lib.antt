@@ -1,5 +1,9 @@
-pub mod Handing
-pub mod Made
-pub mod Steps
+pub mod Stops
+pub mod Driven
+pub mod Failing
+pub mod Lacking
+pub mod Drawing
+pub mod Statuses
 pub mod Endings
+pub mod Made
 pub mod Taken

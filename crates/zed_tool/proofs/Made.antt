@@ -1,22 +1,17 @@
 -- The calls of a run.
-use Rattle.zed_drawing.specs.declared.error.DrawingError.{DrawingError}
 use Rattle.std.proofs.Common.{◌≤◌, ℕ, true, false, List, [], ◌∷◌, ◌++◌, Option, Some, None, Result, Ok, Err, arith, inl, inr}
-use Rattle.std.specs.Prelude.{⊤}
 use Rattle.clap.specs.Walk.{Text}
-use Rattle.zed_host.specs.Calls.{Ask, Call, Complaining, Leads, Printing, Reading, call, passed}
+use Rattle.zed_host.specs.Calls.{Ask, Call, Complaining, Leads, Printing, Reading, call}
 use Rattle.zed_host.specs.Counting.{NothingFailed}
 use Rattle.zed_host.proofs.Calls.{CountsFailures, CountsNoFault, calm_calls, leads_one, leads_then}
-use Rattle.zed_drawing.specs.Asked.{Asks, writing}
+use Rattle.zed_driver.specs.Hosts.{Hosts}
 use Rattle.zed_files.specs.declared.refusal.Refusal.{Refusal}
-use Rattle.zed_playing.specs.Asking.{AsksPlay, IsLost, Sought}
-use Rattle.zed_playing.specs.Led.{Led}
-use Rattle.zed_tool_words.specs.Commands.{Command, Open, Take, Log, Lists, Show, Play, Lint, Set, ProgramOf, SetProgram, command_of}
-use Rattle.zed_tool.specs.Answers.{Answer, Handed, drawn_as}
-use Rattle.zed_set_words.specs.declared.bad.BadWord.{BadWord as WrongWord}
-use Rattle.zed_set_words.specs.declared.wishes.Wish.{Wish}
-use Rattle.zed_set_words.specs.Rows.{wish_of}
-use Rattle.zed_tool.specs.Commands.{AsksCommand, AsksSet, AsksTold}
-use Rattle.zed_tool.specs.Outcome.{Complained, Hosts, Prints, Runs, RunsAs}
+use Rattle.cmd_play.specs.Asking.{AsksPlay, IsLost, Sought}
+use Rattle.cmd_play.specs.Led.{Led}
+use Rattle.zed_tool_words.specs.Commands.{Command, command_of}
+use Rattle.zed_tool.specs.Answers.{Answer}
+use Rattle.zed_tool.specs.Commands.{AsksCourse, Course, Driven, Played, course_of}
+use Rattle.zed_tool.specs.Outcome.{Complained, Prints, Runs, RunsAs}
 
 -- such calls lead from the one state of a host to the other
 abbrev Made : {H : Type 0} → (H → Call → H → Type 0) → H → H → Type 0
@@ -25,25 +20,6 @@ Made called old new = (calls : List Call) × Leads called calls old new
 then_made : {H : Type 0} (called : H → Call → H → Type 0) (old mid new : H) → Made called old mid → Made called mid new
     → Made called old new
 then_made called old mid new first second = (first.0 ++ second.0, leads_then called first.0 second.0 old mid new first.1 second.1)
-
-drawing_made : {H : Type 0} (called : H → Call → H → Type 0) (Course : List Call → Type 0) (Names : List (List ℕ) → Type 0) (result : Result ⊤ DrawingError) (old new : H)
-    → Asks called Course Names result old new → Made called old new
-drawing_made called Course Names (Ok u) old new asks = let did = asks.2 in (did.0 ++ passed (writing asks.0), did.2)
-drawing_made called Course Names (Err e) old new asks = let stopped = asks.2 in (stopped.1, stopped.3)
-
-drawn_made : {H : Type 0} (called : H → Call → H → Type 0) (text : List ℕ) (Course : List Call → Type 0) (Names : List (List ℕ) → Type 0) (answer : Answer) (old new : H)
-    → Handed (drawn_as text) (λ r. Asks called Course Names r old new) answer → Made called old new
-drawn_made called text Course Names answer old new handed = drawing_made called Course Names handed.0 old new handed.1
-
-telling_made : {H : Type 0} (called : H → Call → H → Type 0) (files : List (List ℕ)) (answer : Answer) (old new : H)
-    → AsksTold called files answer old new
-    → Made called old new
-telling_made called files answer old new handed = let asks = handed.1 in (asks.0, asks.1)
-
-set_made : {H : Type 0} (called : H → Call → H → Type 0) (file : List ℕ) (words : List (List ℕ)) (wished : Result Wish WrongWord) (answer : Answer) (old new : H)
-    → AsksSet called file words wished answer old new → Made called old new
-set_made called file words (Ok wish) answer old new handed = let asks = handed.1 in (asks.0, asks.1)
-set_made called file words (Err bad) answer old new wrong = ([], wrong.1)
 
 -- a file that is kept was asked for, or couldn't be had
 sought_made : {H : Type 0} (called : H → Call → H → Type 0) (name : Option (List ℕ)) (old new : H) → Sought called name old new
@@ -75,19 +51,11 @@ play_made called words keys files last told old new asks = elim asks [
       ]))
 ]
 
-command_made : {H : Type 0} (called : H → Call → H → Type 0) (command : Command) (answer : Answer) (old new : H)
-    → AsksCommand called command answer old new
+course_made : {H : Type 0} (called : H → Call → H → Type 0) (course : Course) (answer : Answer) (old new : H)
+    → AsksCourse called course answer old new
     → Made called old new
-command_made called (Open until forcing file world) answer old new asks = drawn_made called file _ _ answer old new asks
-command_made called (Take base file replica world) answer old new asks = drawn_made called file _ _ answer old new asks
-command_made called (Log length board cell replica since files) answer old new asks = telling_made called files answer old new asks
-command_made called (Lists listing files) answer old new asks = telling_made called files answer old new asks
-command_made called (Show form board files) answer old new asks = telling_made called files answer old new asks
-command_made called (Play going rows words keys board files) answer old new handed = play_made called words keys files _ _ old new handed.1
-command_made called (Lint strictness files) answer old new handed = let asks = handed.1 in (asks.0, asks.1)
-command_made called (Set file replica words) answer old new asks = set_made called file words (wish_of words) answer old new asks
-command_made called (ProgramOf board stat files) answer old new asks = telling_made called files answer old new asks
-command_made called (SetProgram file replica board stat text) answer old new asks = drawn_made called text _ _ answer old new asks
+course_made called (Driven d) answer old new handed = let asks = handed.1 in (asks.0, asks.1)
+course_made called (Played q) answer old new handed = play_made called q.words q.keys q.files _ _ old new handed.1
 
 told_made : {H : Type 0} (h : Hosts H) (text : List ℕ) (old new : H) → Complained h text old new → Made h.called old new
 told_made h text old new told =
@@ -108,11 +76,11 @@ as_made : {H : Type 0} (h : Hosts H) (moved : Led) (words : List Text) (command 
     → RunsAs h moved words command status old new
     → Made h.called old new
 as_made h moved words (Some command) status old new runs = elim runs [
-  | inl done ↦ command_made h.called command (Ok status) old new done.asked
+  | inl done ↦ course_made h.called (course_of command) (Ok status) old new done.asked
   | inr refused ↦ (
       let rest = refused.1 in
       let tells = rest.3 in
-      then_made h.called old rest.1 new (command_made h.called command (Err rest.0) old rest.1 rest.2.asked) (told_made h tells.0 rest.1 new tells.2))
+      then_made h.called old rest.1 new (course_made h.called (course_of command) (Err rest.0) old rest.1 rest.2.asked) (told_made h tells.0 rest.1 new tells.2))
 ]
 as_made h moved words None status old new runs = elim runs [
   | inl refused ↦ (let told = refused.3 in told_made h told.0 old new told.1)

@@ -3,31 +3,31 @@ use Rattle.zed_editfile.specs.declared.error.EditFileError.{EditFileError}
 use Rattle.zed_editfile.specs.declared.error.EditFileError.TheVariants as file
 use Rattle.zed_types.specs.declared.stamp.Stamp.{Stamp}
 use Rattle.zed_op.specs.declared.op.Edit.{Edit}
-use Rattle.zed_drawing.specs.declared.error.DrawingError.{DrawingError}
-use Rattle.zed_drawing.specs.declared.error.DrawingError.TheVariants.{Refused}
-use Rattle.zed_files.specs.declared.refusal.Refusal.TheVariants as refusal
-use Rattle.zed_op.specs.declared.cause.Cause.TheVariants as cause
 use Rattle.std.proofs.Common.{◌≡◌, ◌∙◌, ◌==◌, ◌<◌, ◌^◌, ℕ, Bool, true, false, List, [], ◌∷◌, ◌++◌, Option, Some, None, Result, Ok, Err, refl, ap, ap₂, sym, subst, arith, inl, inr, ◌≢◌}
-use Rattle.std.specs.Prelude.{◌⊎◌, not, Contains, MatchBool}
+use Rattle.std.specs.Prelude.{◌⊎◌, not, Contains}
+use Rattle.std.specs.Str.{bytes_eq}
 use Rattle.std.proofs.lemmas.List.Elements.{Contains-append_left, Contains-append_right}
 use Rattle.std.proofs.lemmas.Bool.{ne_eqb}
 use Rattle.zed_op.specs.Set.{Agrees, set_of, union}
 use Rattle.zed_op.proofs.SetLaws.{set_has_its_edits}
 use Rattle.zed_history.specs.Clash.{Agree}
 use Rattle.zed_world.specs.Contents.{Contents}
-use Rattle.zed_world.specs.Reading.{world_at}
 use Rattle.zed_editfile.specs.Stream.{AreRecords, IsTextOf, Progress, Reads, ending, is_other}
 use Rattle.zed_document.specs.Delivery.{IsFirstClash}
 use Rattle.zed_files.specs.Files.{IsFile, IsTextIn, end_by}
-use Rattle.zed_host.specs.HostContents.{HostContents, IsRead, file_in}
-use Rattle.zed_drawing.specs.Base.{HasEdits, OfBase, ReadsBase, presence_of}
-use Rattle.zed_drawing.specs.Effects.{Effect}
-use Rattle.zed_files.specs.Opened.{FileEdits, edits_at}
-use Rattle.zed_drawing.specs.Files.{IsOpened, IsWorld, OfFile, OpensAs, ReadsAs, opened_told, world_told}
-use Rattle.zed_drawing.specs.Refusals.{take_refusal}
-use Rattle.zed_drawing.specs.Steps.{Steps, Then}
-use Rattle.zed_drawing.specs.Taking.{ComesToTake, Draws, Gathers, Given, IsJoined, IsTaken, TakesFrom, drawn, given}
-use Rattle.zed_tool.specs.Answers.{memory}
+use Rattle.zed_files.specs.Opened.{FileEdits}
+use Rattle.zed_files.specs.Rewrites.{opened_at}
+use Rattle.zed_host.specs.HostContents.{HostContents, file_in}
+use Rattle.zed_driver.specs.declared.command.Stop.TheVariants.{Memory}
+use Rattle.zed_driver.specs.Driven.{ComesIn}
+use Rattle.zed_driver.specs.Effects.{Effect}
+use Rattle.cmd_take.specs.Base.{HasEdits, base_word}
+use Rattle.cmd_take.specs.Files.{IsOpened, world_told}
+use Rattle.cmd_take.specs.Steps.{Then}
+use Rattle.cmd_take.specs.Stops.{DrawingStop, drawing_told, take_stop}
+use Rattle.cmd_take.specs.Taking.{Draws, IsJoined, IsTaken, TakeComes, TakeWants, drawn, given}
+use Rattle.cmd_take.proofs.Calm.{OfBases, OfBytes, OfWorld, take_calmly}
+use Rattle.zed_tool.specs.Answers.{drawing_failure, memory}
 use Rattle.zed_tool.specs.Calm.{Ending, HasStatus, Leaves, left_by}
 use Rattle.zed_tool.specs.Taking.{AsksToTake, TakesSet}
 
@@ -89,98 +89,43 @@ sets_agree es fs a e f m n s =
     (Contains-append_right es fs f ((set_has_its_edits fs (agree_right es fs a) f).0 n)) s
 
 -- a step that went well, and what followed it
-then_ok : {X Y : Type 0} (N : X → Result Y DrawingError → Type 0) (m : Result X DrawingError) (x : X) (r : Result Y DrawingError) → m ≡ Ok x
+then_ok : {X Y : Type 0} (N : X → Result Y DrawingStop → Type 0) (m : Result X DrawingStop) (x : X) (r : Result Y DrawingStop) → m ≡ Ok x
     → Then m N r
     → N x r
 then_ok N m x r is after = subst (λ m. Then m N r) is after
 
 -- one that was refused
-then_err : {X Y : Type 0} (N : X → Result Y DrawingError → Type 0) (m : Result X DrawingError) (e : DrawingError) (r : Result Y DrawingError)
+then_err : {X Y : Type 0} (N : X → Result Y DrawingStop → Type 0) (m : Result X DrawingStop) (e : DrawingStop) (r : Result Y DrawingStop)
     → m ≡ Err e → Then m N r
     → r ≡ Err e
 then_err N m e r is after = subst (λ m. Then m N r) is after
 
--- a file that is there, and spells edits, opens as their set
-bytes_opened : WrittenIsRead → (asked : Option ℕ) (n : ℕ) (es : List Edit) (bytes : List ℕ) (m : Result FileEdits DrawingError) → n < 2 ^ 64
+-- bytes that spell edits open as their set
+bytes_opened : WrittenIsRead → (asked : Option ℕ) (n : ℕ) (es : List Edit) (bytes : List ℕ) (m : Result FileEdits DrawingStop) → n < 2 ^ 64
     → AreRecords es → Agrees es
     → is_other asked n ≡ false → IsTextOf n es bytes → IsOpened asked bytes m → m ≡ Ok (n, set_of es)
 bytes_opened law asked n es bytes m small good agrees own text opened =
     let file = opened.1 in
     let found = file.0 in
     let is = file_is law asked n es found bytes file.1 small good text own file.2 in
-    let told : opened_told opened.0 ≡ Ok (n, set_of es) = elim file.3 [
+    let told : opened.0 ≡ Ok (n, set_of es) = elim file.3 [
       | inl clash ↦ absurd (no_clash found clash.0 (subst Agrees (sym is.0) agrees) clash.1)
-      | inr whole ↦ ap opened_told (whole.1 ∙ ap₂ edits_at is.1 is.0)
+      | inr whole ↦ whole.1 ∙ ap₂ opened_at is.1 is.0
     ] in
-    opened.2 ∙ told
+    opened.2 ∙ ap drawing_told told
 
-file_opened : WrittenIsRead → (asked : Option ℕ) (n : ℕ) (es : List Edit) (read : Option (List ℕ)) (m : Result FileEdits DrawingError)
-    → n < 2 ^ 64 → AreRecords es → Agrees es
-    → is_other asked n ≡ false → IsTextIn n es read → OfFile (IsOpened asked) read m → m ≡ Ok (n, set_of es)
-file_opened law asked n es None m small good agrees own text opened = absurd text
-file_opened law asked n es (Some bytes) m small good agrees own text opened =
-    bytes_opened law asked n es bytes m small good agrees own text opened
-
-read_calmly : (t : HostContents) (name : List ℕ) (read : Option (List ℕ)) → IsRead ⊥ t name read → read ≡ file_in t name
-read_calmly t name read is = elim is [ inl held ↦ held | inr failed ↦ absurd failed.0 ]
-
-name_opened : WrittenIsRead
-    → (asked : Option ℕ) (n : ℕ) (es : List Edit) (t : HostContents) (name : List ℕ) (m : Result FileEdits DrawingError) → n < 2 ^ 64
-    → AreRecords es → Agrees es
-    → is_other asked n ≡ false → IsTextIn n es (file_in t name) → OpensAs ⊥ t asked name m → m ≡ Ok (n, set_of es)
-name_opened law asked n es t name m small good agrees own text opens =
-    file_opened law asked n es (file_in t name) m small good agrees own text
-    (subst (λ read. OfFile (IsOpened asked) read m) (read_calmly t name opens.0 opens.1) opens.2)
-
--- the base beside the world file
-beside_found : WrittenIsRead → (n : ℕ) (es : List Edit) (read : Option (List ℕ)) (m : Result (Option (List Edit)) DrawingError) → n < 2 ^ 64
-    → AreRecords es → Agrees es
-    → IsTextIn n es read → OfBase n read m → m ≡ Ok (Some (set_of es))
-beside_found law n es None m small good agrees text found = absurd text
-beside_found law n es (Some bytes) m small good agrees text found =
-    then_ok HasEdits found.0 (n, set_of es) m (bytes_opened law (Some n) n es bytes found.0 small good agrees (same_world n) text found.1) found.2
-
-base_found : WrittenIsRead
-    → (n : ℕ) (es : List Edit) (t : HostContents) (word : Option (List ℕ)) (name : List ℕ) (m : Result (Option (List Edit)) DrawingError)
-    → n < 2 ^ 64
-    → AreRecords es → Agrees es → IsTextIn n es (file_in t name) → ReadsBase ⊥ t (presence_of word) name n m → m ≡ Ok (Some (set_of es))
-base_found law n es t (Some word) name m small good agrees text found =
-    then_ok HasEdits found.0 (n, set_of es) m (name_opened law (Some n) n es t name found.0 small good agrees (same_world n) text found.1) found.2
-base_found law n es t None name m small good agrees text found =
-    elim found.1 [
-      | inl held ↦ beside_found law n es (file_in t name) m small good agrees text (then_ok (OfBase n) found.0 (file_in t name) m held found.2)
-      | inr failed ↦ absurd failed.0
-    ]
-
-world_read : (t : HostContents) (world bytes : List ℕ) (shown : Contents) (m : Result Contents DrawingError) → file_in t world ≡ Some bytes
-    → world_at bytes ≡ Ok shown
-    → ReadsAs ⊥ t world m → m ≡ Ok shown
-world_read t world bytes shown m there reads is =
-    subst (λ read. OfFile IsWorld read m) (read_calmly t world is.0 is.1 ∙ there) is.2 ∙ ap world_told reads
-
--- what is read
-gathered : WrittenIsRead
-    → (words : List (List ℕ)) (t : HostContents) (name file : List ℕ) (replica number : ℕ) (own based : List Edit) (shown : Contents) (m : Result Given DrawingError)
-    → (asks : AsksToTake words t name file replica number own based shown)
-    → Gathers ⊥ t (presence_of asks.base) name file asks.world m → m ≡ Ok (given (number, set_of own) (Some (set_of based)) shown)
-gathered law words t name file replica number own based shown m asks gathers =
-    let presence = presence_of asks.base in
-    let first = name_opened law None number own t file gathers.0 asks.is_number (records_left own based asks.records) (agree_left own based asks.agree) refl asks.spelled gathers.1 in
-    let rest = then_ok _ gathers.0 (number, set_of own) m first gathers.2 in
-    let finds : ReadsBase ⊥ t presence name number rest.0 =
-    subst (λ b. MatchBool b (rest.0 ≡ Ok None) (ReadsBase ⊥ t presence name number rest.0)) asks.other rest.1 in
-    let second = base_found law number based t asks.base name rest.0 asks.is_number (records_right own based asks.records) (agree_right own based asks.agree) asks.base_spelled finds in
-    let last = then_ok _ rest.0 (Some (set_of based)) m second rest.2 in
-    let third = world_read t asks.world asks.bytes shown last.0 asks.there asks.reads last.1 in
-    then_ok (λ w r. r ≡ Ok (given (number, set_of own) (Some (set_of based)) w)) last.0 shown m third last.2
+-- a file that spells edits is there
+text_there : (n : ℕ) (es : List Edit) (file : Option (List ℕ)) → IsTextIn n es file → (bytes : List ℕ) × (file ≡ Some bytes) × IsTextOf n es bytes
+text_there n es None text = absurd text
+text_there n es (Some bytes) text = (bytes, refl, text)
 
 -- what is done with it
-abbrev DrawsSet : List ℕ → List ℕ → ℕ → ℕ → List Edit → List Edit → Contents → Result Effect DrawingError → Type 0
+abbrev DrawsSet : List ℕ → List ℕ → ℕ → ℕ → List Edit → List Edit → Contents → Result Effect DrawingStop → Type 0
 DrawsSet name file replica number own based shown r =
     (k : _) × IsTaken (union own based) based shown replica k
     × Then k (λ new r. r ≡ Ok (drawn name file (given (number, own) (Some based) shown) (union own based) new)) r
 
-draws_set : (name file : List ℕ) (replica number : ℕ) (own based : List Edit) (shown : Contents) (r : Result Effect DrawingError)
+draws_set : (name file : List ℕ) (replica number : ℕ) (own based : List Edit) (shown : Contents) (r : Result Effect DrawingStop)
     → Agree own based
     → Draws name file replica (given (number, own) (Some based) shown) r → DrawsSet name file replica number own based shown r
 unfolding Draws IsJoined
@@ -191,38 +136,57 @@ draws_set name file replica number own based shown r agree draws =
     ] in
     then_ok _ draws.0 (union own based) r joined draws.2
 
-taken_set : (name file : List ℕ) (t : HostContents) (replica number : ℕ) (own based : List Edit) (shown : Contents) (x : Result Effect DrawingError) (status : ℕ) (new : Option HostContents)
-    → DrawsSet name file replica number own based shown x → HasStatus (left_by file t x) t status new
+taken_set : (name file : List ℕ) (t : HostContents) (replica number : ℕ) (own based : List Edit) (shown : Contents) (x : Result Effect DrawingStop) (status : ℕ) (new : Option HostContents)
+    → DrawsSet name file replica number own based shown x → HasStatus (left_by (drawing_failure file) t x) t status new
     → TakesSet name file t replica number own based shown status new
 unfolding IsTaken
 taken_set name file t replica number own based shown x status new draws has = elim draws.1 [
   | inl taken ↦ (
       let is = then_ok _ draws.0 taken.0 x taken.2 draws.2 in
-      inl (taken.0, taken.1, subst (λ x. HasStatus (left_by file t x) t status new) is has))
+      inl (taken.0, taken.1, subst (λ x. HasStatus (left_by (drawing_failure file) t x) t status new) is has))
   | inr none ↦ (
-      let is = then_err _ draws.0 (take_refusal none.0) x none.2 draws.2 in
-      inr (inl (none.0, none.1, subst (λ x. HasStatus (left_by file t x) t status new) is has)))
+      let is = then_err _ draws.0 (take_stop none.0) x none.2 draws.2 in
+      inr (inl (none.0, none.1, subst (λ x. HasStatus (left_by (drawing_failure file) t x) t status new) is has)))
 ]
 
+-- the set of what the bytes of the three files spell is drawn
 draws_of : WrittenIsRead
-    → (words : List (List ℕ)) (t : HostContents) (name file : List ℕ) (replica number : ℕ) (own based : List Edit) (shown : Contents) (x : Result Effect DrawingError)
-    → (asks : AsksToTake words t name file replica number own based shown) → ComesToTake ⊥ t asks.base file replica asks.world x
+    → (words : List (List ℕ)) (t : HostContents) (name file : List ℕ) (replica number : ℕ) (own based : List Edit) (shown : Contents) (x : Result Effect DrawingStop)
+    → (asks : AsksToTake words t name file replica number own based shown) (first second : List ℕ) → IsTextOf number own first → IsTextOf number based second
+    → OfBytes name file replica first second asks.bytes x
     → DrawsSet name file replica number (set_of own) (set_of based) shown x
-unfolding TakesFrom
-draws_of law words t name file replica number own based shown x asks comes =
-    let presence = presence_of asks.base in
-    let from : TakesFrom ⊥ t presence name file replica asks.world x =
-    subst (λ n. TakesFrom ⊥ t presence n file replica asks.world x) (sym asks.is_base) comes in
-    let at : Steps (Gathers ⊥ t presence name file asks.world) (Draws name file replica) x =
-    subst (λ b. MatchBool b (x ≡ Err (Refused (refusal.BadEdit cause.Stamp))) (Steps (Gathers ⊥ t presence name file asks.world) (Draws name file replica) x))
-    (ne_eqb replica 0 asks.is_author) from in
-    let is = gathered law words t name file replica number own based shown at.0 asks at.1 in
-    draws_set name file replica number (set_of own) (set_of based) shown x (sets_agree own based asks.agree) (then_ok (Draws name file replica) at.0 _ x is at.2)
+draws_of law words t name file replica number own based shown x asks first second text base_text is =
+    let one = bytes_opened law None number own first is.0 asks.is_number (records_left own based asks.records) (agree_left own based asks.agree) refl text is.1 in
+    let bases = then_ok (OfBases name file replica second asks.bytes) is.0 (number, set_of own) x one is.2 in
+    let based_on = bases.1 in
+    let two = then_ok HasEdits based_on.0 (number, set_of based) bases.0
+    (bytes_opened law (Some number) number based second based_on.0 asks.is_number (records_right own based asks.records) (agree_right own based asks.agree) (same_world number) base_text based_on.1)
+    based_on.2 in
+    let last = then_ok (OfWorld name file replica asks.bytes (number, set_of own)) bases.0 (Some (set_of based)) x two bases.2 in
+    let three : last.0 ≡ Ok shown = last.1 ∙ ap world_told asks.reads in
+    let draws = then_ok (λ w. Draws name file replica (given (number, set_of own) (Some (set_of based)) w)) last.0 shown x three last.2 in
+    draws_set name file replica number (set_of own) (set_of based) shown x (sets_agree own based asks.agree) draws
+
+-- where memory suffices, that is what `take` comes to
+takes_set : WrittenIsRead
+    → (words : List (List ℕ)) (t : HostContents) (name file : List ℕ) (replica number : ℕ) (own based : List Edit) (shown : Contents) (x : Result Effect DrawingStop)
+    → (asks : AsksToTake words t name file replica number own based shown)
+    → ComesIn ⊥ t (TakeWants asks.base file replica asks.world) (TakeComes asks.base file replica asks.world) x
+    → (x ≡ Err Memory) ⊎ DrawsSet name file replica number (set_of own) (set_of based) shown x
+takes_set law words t name file replica number own based shown x asks comes =
+    let first = text_there number own (file_in t file) asks.spelled in
+    let second = text_there number based (file_in t name) asks.base_spelled in
+    let word = asks.is_base in
+    elim (take_calmly t asks.base file replica asks.world first.0 second.0 asks.bytes x asks.is_author (subst (λ n. bytes_eq n file ≡ false) word asks.other) first.1 (subst (λ n. file_in t n ≡ Some second.0) word second.1) asks.there comes) [
+      | inl lack ↦ inl lack
+      | inr all ↦ inr (draws_of law words t name file replica number own based shown x asks first.0 second.0 first.2 second.2 (subst (λ n. OfBytes n file replica first.0 second.0 asks.bytes x) (sym word) all))
+    ]
 
 -- how `take` ends where its host didn't fail, whatever the devices of a playtest are
 abbrev EndsTaking : HostContents → Option (List ℕ) → List ℕ → ℕ → List ℕ → ℕ → Option HostContents → Type 0
 EndsTaking t base file replica world status new =
-    ((ending : Ending) × Leaves (left_by file t) (ComesToTake ⊥ t base file replica world) ending × HasStatus ending t status new)
+    ((ending : Ending) × Leaves (left_by (drawing_failure file) t) (ComesIn ⊥ t (TakeWants base file replica world) (TakeComes base file replica world)) ending
+    × HasStatus ending t status new)
     ⊎ HasStatus (Err memory) t status new
 
 -- and `run` ends so
@@ -234,8 +198,11 @@ pub run_takes : WrittenIsRead
 run_takes law words t name file replica number own based shown status new asks ended = elim ended [
   | inl done ↦ (
       let comes = done.1 in
-      taken_set name file t replica number (set_of own) (set_of based) shown comes.0 status new
-      (draws_of law words t name file replica number own based shown comes.0 asks comes.1)
-      (subst (λ r. HasStatus r t status new) comes.2 done.2))
+      let x = comes.0 in
+      let has : HasStatus (left_by (drawing_failure file) t x) t status new = subst (λ r. HasStatus r t status new) comes.2 done.2 in
+      elim (takes_set law words t name file replica number own based shown x asks comes.1) [
+        | inl lack ↦ inr (inr (subst (λ x. HasStatus (left_by (drawing_failure file) t x) t status new) lack has))
+        | inr draws ↦ taken_set name file t replica number (set_of own) (set_of based) shown x status new draws has
+      ])
   | inr lacks ↦ inr (inr lacks)
 ]

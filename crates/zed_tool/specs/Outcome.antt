@@ -1,42 +1,29 @@
 -- What `run` does.
-use Rattle.std.specs.Prelude.{◌≡◌, ◌≤◌, ◌<◌, ◌⊎◌, ℕ, Bool, true, false, List, length, Option, Some, None, Ok, Err, IfErr}
+use Rattle.std.specs.Prelude.{◌≡◌, ◌≤◌, ◌<◌, ◌⊎◌, ℕ, Bool, true, false, List, length, Option, Some, None, Ok, Err}
 use Rattle.clap.specs.Walk.{Text}
 use Rattle.zed_host.specs.Calls.{Call, Complaining, Printing, call}
 use Rattle.zed_host.specs.Counting.{Rose}
 use Rattle.zed_host.specs.HostContents.{HalfComplained, HalfPrinted, HostContents, StillTells, with_complaint, with_printed}
-use Rattle.zed_playing.specs.Led.{Led}
+use Rattle.zed_driver.specs.Hosts.{Hosts}
+use Rattle.cmd_play.specs.Led.{Led}
 use Rattle.zed_tool_words.specs.Commands.{AsksHelp, AsksVersion, Command, MayAskHelp, MayAskVersion, command_of}
 use Rattle.zed_tool_words.specs.Version.{version_text}
 use Rattle.zed_tool.specs.Answers.{Answer, Failure, file_failed, memory}
-use Rattle.zed_tool.specs.Commands.{AsksCommand, EndsCommand}
+use Rattle.zed_tool.specs.Commands.{AsksCourse, Course, EndsCourse, StepsCourse, course_of}
+use Rattle.zed_tool.specs.Driving.{TellsFailures}
 use Rattle.zed_tool.specs.Lines.{line_of, tells_more}
-
--- what hosts tell: what they hold, their calls, how many of these failed, and how many by a fault
-pub record Hosts (H : Type 0) : Type 1 where
-  pub contents : H → Option HostContents
-  pub called : H → Call → H → Type 0
-  pub failed : H → ℕ
-  pub faults : H → ℕ
-
--- hosts that tell so
-abbrev pub hosts : {H : Type 0} → (H → Option HostContents) → (H → Call → H → Type 0) → (H → ℕ) → (H → ℕ) → Hosts H
-hosts contents called failed faults = record { contents = contents; called = called; failed = failed; faults = faults }
 
 -- no failure is forgotten
 abbrev pub NoneForgotten : {H : Type 0} → Hosts H → H → H → Type 0
 NoneForgotten h old new = (h.faults old ≤ h.faults new) × (h.failed old ≤ h.failed new)
 
--- the same, and `File` is answered only where a call failed meanwhile
-abbrev pub TellsFailures : {H : Type 0} → (H → ℕ) → (H → ℕ) → Answer → H → H → Type 0
-TellsFailures faults failed answer old new =
-    (faults old ≤ faults new) × (failed old ≤ failed new) × IfErr answer (λ e. e ≡ file_failed → Rose (failed old) (failed new))
-
 -- a command that answered this led from the one state of a host to the other, and devices so: what it left, what it asked for, call by call,
--- and that it forgot no failure
-pub record Acted {H : Type 0} (h : Hosts H) (moved : Led) (command : Command) (answer : Answer) (old new : H) : Type 0 where
+-- that step by step where a driver carried it out, and that it forgot no failure
+pub record Acted {H : Type 0} (h : Hosts H) (moved : Led) (course : Course) (answer : Answer) (old new : H) : Type 0 where
   pub ends : (t : HostContents) → h.contents old ≡ Some t
-      → EndsCommand h.called (Rose (h.faults old) (h.faults new)) moved command old new t answer (h.contents new)
-  pub asked : AsksCommand h.called command answer old new
+      → EndsCourse (Rose (h.faults old) (h.faults new)) moved t course answer (h.contents new)
+  pub asked : AsksCourse h.called course answer old new
+  pub steps : StepsCourse h course answer old new
   pub failures : TellsFailures h.faults h.failed answer old new
 
 -- a text is on the standard error, or the host failed at it
@@ -72,8 +59,8 @@ TellsOf h e old new = (line : List ℕ) × IsLineOf e line × Complained h line 
 -- a command is carried out with its status; or it isn't, with status 1, and then the user is told why
 abbrev pub RunsCommand : {H : Type 0} → Hosts H → Led → Command → ℕ → H → H → Type 0
 RunsCommand h moved command status old new =
-    Acted h moved command (Ok status) old new
-    ⊎ ((status ≡ 1) × ((e : Failure) × (mid : _) × Acted h moved command (Err e) old mid × TellsOf h e mid new))
+    Acted h moved (course_of command) (Ok status) old new
+    ⊎ ((status ≡ 1) × ((e : Failure) × (mid : _) × Acted h moved (course_of command) (Err e) old mid × TellsOf h e mid new))
 
 -- a text is printed with status 0; where that failed the status is 1
 abbrev pub Prints : {H : Type 0} → Hosts H → List ℕ → ℕ → H → H → Type 0

@@ -11,12 +11,12 @@ use Rattle.zed_editfile.specs.Stream.{AreRecords}
 use Rattle.zed_files.specs.Files.{IsTextIn}
 use Rattle.zed_host.specs.HostContents.{HostContents, file_in}
 use Rattle.zed_take.specs.Taken.{AreTaken, next_stamp}
-use Rattle.zed_drawing.specs.Base.{base_word}
-use Rattle.zed_drawing.specs.Effects.{after}
-use Rattle.zed_drawing.specs.Refusals.{take_refusal}
-use Rattle.zed_drawing.specs.Taking.{IsNotTaken, drawn, given}
+use Rattle.cmd_take.specs.Base.{base_word}
+use Rattle.zed_driver.specs.Effects.{after}
+use Rattle.cmd_take.specs.Stops.{take_stop}
+use Rattle.cmd_take.specs.Taking.{IsNotTaken, drawn, given}
 use Rattle.zed_tool_words.specs.Commands.{Take, command_of}
-use Rattle.zed_tool.specs.Answers.{drawing_failure, memory}
+use Rattle.zed_tool.specs.Answers.{drawing_failure, failure_as, memory}
 use Rattle.zed_tool.specs.Calm.{HasStatus}
 
 -- the words ask an author to take what was drawn; FILE spells these edits of a world, and the base, which is another file, those, each in one
@@ -43,5 +43,5 @@ abbrev pub TakesSet : Text → Text → HostContents → ℕ → ℕ → List Ed
 TakesSet name file t replica number own based shown status new =
     ((taken : List Edit) × AreTaken based shown (next_stamp (union own based) replica) taken
     × HasStatus (Ok (0, after (drawn name file (given (number, own) (Some based) shown) (union own based) taken) t)) t status new)
-    ⊎ ((e : TakeError) × IsNotTaken (union own based) based shown e × HasStatus (Err (drawing_failure file (take_refusal e))) t status new)
+    ⊎ ((e : TakeError) × IsNotTaken (union own based) based shown e × HasStatus (Err (failure_as (drawing_failure file) (take_stop e))) t status new)
     ⊎ HasStatus (Err memory) t status new

@@ -1,15 +1,17 @@
 //! The answers of commands, as the program hands them on.
-ghost use Rattle.std.specs.Prelude.{◌≡◌, map};
-ghost use Rattle.zed_tool.specs.Answers.{answer_of, drawn_as, lint_status as status_for, linted_as, set_as, told_as};
+ghost use Rattle.std.specs.Prelude.{◌≡◌};
+ghost use Rattle.zed_files.specs.Texts.{texts_of};
+ghost use Rattle.zed_tool.specs.Answers.{answer_of, drawing_failure, failure_of, handed, set_failure, shared_failure, told_as};
 
 use crate::error::ToolError;
-use zed_drawing::DrawingError;
+use cmd_set::SetReason;
+use cmd_take::DrawingReason;
+use zed_driver::Stop;
 use zed_files::Refusal;
-use zed_set::SetError;
-use zed_tool_words::Strictness;
+use zed_refusal::Reason;
 
-/// That of a command that only prints.
-pub(crate) fn told<'a>(answer: Result<(), Refusal>) -> Result<u8, ToolError<'a>>
+/// That of a playtest.
+pub(crate) fn played<'a>(answer: Result<(), Refusal>) -> Result<u8, ToolError<'a>>
     ensures { answer_of result ≡ told_as answer }
 {
     match answer {
@@ -18,57 +20,66 @@ pub(crate) fn told<'a>(answer: Result<(), Refusal>) -> Result<u8, ToolError<'a>>
     }
 }
 
-/// That of a command that draws, or takes a program from the text of this file.
+/// That of a command that only tells.
+pub(crate) fn told<'a>(answer: Result<u8, Stop<Reason>>) -> Result<u8, ToolError<'a>>
+    ensures { answer_of result ≡ handed shared_failure answer }
+{
+    match answer {
+        Ok(status) => Ok(status),
+        Err(stop) => Err(ToolError::Refused(Refusal::from(stop))),
+    }
+}
+
+// A refusal of a command that draws, or takes a program from the text of this file.
+fn drawing_error<'a>(text: &'a str, reason: DrawingReason) -> ToolError<'a>
+    ensures { failure_of result ≡ drawing_failure text.entry.now reason }
+{
+    match reason {
+        DrawingReason::Common(reason) => ToolError::Refused(Refusal::from(reason)),
+        DrawingReason::NotTaken => ToolError::NotTaken,
+        DrawingReason::BadText(bad) => ToolError::BadText(text, bad),
+    }
+}
+
+/// That of such a command.
 pub(crate) fn drawn<'a>(
     text: &'a str,
-    answer: Result<(), DrawingError>,
+    answer: Result<u8, Stop<DrawingReason>>,
 ) -> Result<u8, ToolError<'a>>
-    ensures { answer_of result ≡ drawn_as text.entry.now answer }
+    ensures { answer_of result ≡ handed (drawing_failure text.entry.now) answer }
 {
     match answer {
-        Ok(()) => Ok(0),
-        Err(DrawingError::Refused(refusal)) => Err(ToolError::Refused(refusal)),
-        Err(DrawingError::NotTaken) => Err(ToolError::NotTaken),
-        Err(DrawingError::BadText(bad)) => Err(ToolError::BadText(text, bad)),
+        Ok(status) => Ok(status),
+        Err(Stop::Memory) => Err(ToolError::Refused(Refusal::Memory)),
+        Err(Stop::File) => Err(ToolError::Refused(Refusal::File)),
+        Err(Stop::Refused(reason)) => Err(drawing_error(text, reason)),
     }
 }
 
-// The status where so many lines were found.
-fn lint_status(strictness: Strictness, lines: usize) -> u8
-    ensures { result ≡ status_for strictness lines }
+// A refusal of `set` with these words.
+fn set_error<'a>(words: &[&'a str], reason: SetReason) -> ToolError<'a>
+    ensures { failure_of result ≡ set_failure (texts_of words.now) reason }
 {
-    match strictness {
-        Strictness::Lenient => 0,
-        Strictness::Strict => { if 0 < lines { 1 } else { 0 } }
-    }
-}
-
-/// That of `lint`.
-pub(crate) fn linted<'a>(
-    strictness: Strictness,
-    answer: Result<usize, Refusal>,
-) -> Result<u8, ToolError<'a>>
-    ensures { answer_of result ≡ linted_as strictness answer }
-{
-    match answer {
-        Ok(lines) => Ok(lint_status(strictness, lines)),
-        Err(refusal) => Err(ToolError::Refused(refusal)),
+    match reason {
+        SetReason::Common(reason) => ToolError::Refused(Refusal::from(reason)),
+        SetReason::BadWord(bad) => match words.get(bad.at) {
+            Some(word) => ToolError::BadWord(Some(*word), bad.expected),
+            None => ToolError::BadWord(None, bad.expected),
+        },
     }
 }
 
 /// That of `set` with these words.
 pub(crate) fn set_told<'a>(
     words: &[&'a str],
-    answer: Result<(), SetError>,
+    answer: Result<u8, Stop<SetReason>>,
 ) -> Result<u8, ToolError<'a>>
-    ensures { answer_of result ≡ set_as (map (λ s. s.now) words.now) answer }
+    ensures { answer_of result ≡ handed (set_failure (texts_of words.now)) answer }
 {
     match answer {
-        Ok(()) => Ok(0),
-        Err(SetError::Refused(refusal)) => Err(ToolError::Refused(refusal)),
-        Err(SetError::BadWord(bad)) => match words.get(bad.at) {
-            Some(word) => Err(ToolError::BadWord(Some(*word), bad.expected)),
-            None => Err(ToolError::BadWord(None, bad.expected)),
-        },
+        Ok(status) => Ok(status),
+        Err(Stop::Memory) => Err(ToolError::Refused(Refusal::Memory)),
+        Err(Stop::File) => Err(ToolError::Refused(Refusal::File)),
+        Err(Stop::Refused(reason)) => Err(set_error(words, reason)),
     }
 }

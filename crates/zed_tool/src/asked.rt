@@ -1,12 +1,12 @@
 //! What words ask for, as the commands take it.
 ghost use Rattle.std.specs.Prelude.{◌≡◌};
-ghost use Rattle.zed_tool.specs.Commands.{forcing_of as forcing_for, form_of as form_for, going_of as going_for, length_of as length_for, listing_of as listing_for, size_of as size_for};
+ghost use Rattle.zed_tool.specs.Commands.{forcing_of as forcing_for, form_of as form_for, going_of as going_for, length_of as length_for, listing_of as listing_for, size_of as size_for, strictness_of as strictness_for};
 
-use zed_drawing::Forcing;
+use cmd_log::{Length, Listing, Strictness};
+use cmd_play::Going;
+use cmd_take::Forcing;
 use zed_look::Form;
-use zed_playing::Going;
-use zed_staging::Size;
-use zed_telling::{Length, Listing};
+use zed_terminal::Size;
 
 /// What is done to a world file that was drawn in.
 pub(crate) fn forcing_of(forcing: zed_tool_words::Forcing) -> Forcing
@@ -67,5 +67,15 @@ pub(crate) fn form_of(form: zed_tool_words::Form) -> Form
         zed_tool_words::Form::Coloured => Form::Coloured,
         zed_tool_words::Form::Plain => Form::Plain,
         zed_tool_words::Form::Svg => Form::Svg,
+    }
+}
+
+/// Whether findings are told by the status too.
+pub(crate) fn strictness_of(strictness: zed_tool_words::Strictness) -> Strictness
+    ensures { result ≡ strictness_for strictness }
+{
+    match strictness {
+        zed_tool_words::Strictness::Lenient => Strictness::Lenient,
+        zed_tool_words::Strictness::Strict => Strictness::Strict,
     }
 }

@@ -1,7 +1,7 @@
 //! Why a command was not carried out.
 
 use zed_files::Refusal;
-use zed_program_text::BadText;
+use zed_plaintext::BadText;
 use zed_set_words::Expected;
 
 /// Why a command was not carried out.

@@ -3,6 +3,7 @@
 
 mod answers;
 mod asked;
+mod driving;
 mod error;
 mod lines;
 mod program;

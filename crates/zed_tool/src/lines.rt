@@ -8,7 +8,7 @@ use crate::error::ToolError;
 use std::alloc::{AllocError, Global};
 use zed_edit::Cause;
 use zed_files::Refusal;
-use zed_program_text::BadText;
+use zed_plaintext::BadText;
 use zed_set_words::Expected;
 use zed_types::Stamp;
 

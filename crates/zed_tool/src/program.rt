@@ -3,36 +3,35 @@ ghost use Rattle.std.specs.Prelude.{◌≡◌, ◌≤◌, ◌⊎◌, ℕ, IsSome
 ghost use Rattle.zed_op.specs.declared.op.Edit.{Edit as TheEdit};
 ghost use Rattle.zed_op.specs.Set.{set_of};
 ghost use Rattle.zed_world.specs.Contents.{Contents};
-ghost use Rattle.zed_host.specs.Counting.{NothingFailed, Rose};
+ghost use Rattle.zed_driver.specs.Hosts.{hosts};
+ghost use Rattle.zed_host.specs.Counting.{NothingFailed};
 ghost use Rattle.zed_host.specs.HostContents.{HostContents};
-ghost use Rattle.zed_turns.specs.Devices.{AtMostOnce, once_more};
-ghost use Rattle.zed_playing.specs.Led.{devices, led};
+ghost use Rattle.zed_terminal.specs.Devices.{AtMostOnce, once_more};
+ghost use Rattle.cmd_play.specs.Led.{devices, led};
 ghost use Rattle.zed_tool_words.specs.Commands.{AsksHelp, AsksVersion, Command as Asked, command_of, meaning_of};
 ghost use Rattle.zed_tool_words.specs.Version.{version_text};
 ghost use Rattle.zed_tool.specs.Answers.{answer_of, failure_of, memory};
 ghost use Rattle.zed_tool.specs.Calm.{EndsCalmly};
-ghost use Rattle.zed_tool.specs.Commands.{AsksCommand, EndsCommand, is_playtest, plays};
+ghost use Rattle.zed_tool.specs.Commands.{course_of, is_playtest, plays};
 ghost use Rattle.zed_tool.specs.Lines.{line_of as line_for};
 ghost use Rattle.zed_tool.specs.Taking.{AsksToTake, TakesSet};
-ghost use Rattle.zed_tool.specs.Outcome.{Complained, Prints, Runs, TellsAloud, TellsFailures, TellsOf, hosts};
+ghost use Rattle.zed_tool.specs.Outcome.{Acted, Complained, Prints, Runs, TellsAloud, TellsOf};
 
-use crate::answers::{drawn, linted, set_told, told};
-use crate::asked::{forcing_of, form_of, going_of, length_of, listing_of, size_of};
+use crate::answers::played;
+use crate::asked::{forcing_of, form_of, going_of, length_of, listing_of, size_of, strictness_of};
+use crate::driving::{open_world, set_program, set_words, take_world, tell};
 use crate::error::ToolError;
 use crate::lines::{line_of, plain_line};
+use cmd_log::{Filter, Lint, Log};
+use cmd_play::play;
+use cmd_program::Program;
+use cmd_show::Show;
 use std::alloc::Global;
-use zed_drawing::{open, take};
 use zed_editfile::one_reading;
 use zed_files::Refusal;
 use zed_host::Host;
-use zed_playing::play;
-use zed_programs::set_program;
-use zed_set::set;
-use zed_showing::show;
-use zed_staging::Inputs;
-use zed_telling::{Filter, lint, list, log};
+use zed_terminal::{Chance, Console, Inputs, Terminal};
 use zed_tool_words::{Command, ParseError, parse, version};
-use zed_turns::{Chance, Console, Terminal};
 
 const MEMORY_LINE: &[u8] = b"zztool: Memory\n";
 
@@ -65,14 +64,10 @@ fn act<'a, H: Host, T: Terminal, I: Inputs, C: Chance>(
     console: &mut Console<T, I, C>,
     command: &Command<'a>,
 ) -> Result<u8, ToolError<'a>>
-    ensures ends { (t : HostContents) → H.contents host.old ≡ Some t
-        → EndsCommand H.called (Rose (H.faults host.old) (H.faults host.new))
+    ensures acted { Acted (hosts H.contents H.called H.failed H.faults)
         (led (devices T.drawn T.draws_foretell I.left C.to_come C.chance_failures)
         console.old console.new)
-        (meaning_of command.now) host.old host.new t (answer_of result) (H.contents host.new) }
-    ensures asked { AsksCommand H.called (meaning_of command.now) (answer_of result)
-        host.old host.new }
-    ensures failures { TellsFailures H.faults H.failed (answer_of result) host.old host.new }
+        (course_of (meaning_of command.now)) (answer_of result) host.old host.new }
     ensures idle { is_playtest (meaning_of command.now) ≡ false → console.new ≡ console.old }
     ensures left { T.is_entered console.old.terminal ≡ false
         → T.is_entered console.new.terminal ≡ false }
@@ -85,16 +80,13 @@ fn act<'a, H: Host, T: Terminal, I: Inputs, C: Chance>(
             forcing,
             file,
             world,
-        } => drawn(
-            *file,
-            open(alloc, host, *until, forcing_of(*forcing), file, world),
-        ),
+        } => open_world(alloc, host, *until, forcing_of(*forcing), *file, world),
         Command::Take {
             base,
             file,
             replica,
             world,
-        } => drawn(*file, take(alloc, host, *base, file, *replica, world)),
+        } => take_world(alloc, host, *base, *file, *replica, world),
         Command::Log {
             length,
             board,
@@ -110,21 +102,17 @@ fn act<'a, H: Host, T: Terminal, I: Inputs, C: Chance>(
                 since: *since,
             };
             let length = length_of(*length);
-            told(log(alloc, host, length, &filter, files.as_slice()))
+            tell(alloc, host, files.as_slice(), Log { length, filter })
         }
-        Command::List { listing, files } => told(list(
-            alloc,
-            host,
-            listing_of(*listing),
-            files.as_slice(),
-        )),
-        Command::Show { form, board, files } => told(show(
-            alloc,
-            host,
-            form_of(*form),
-            *board,
-            files.as_slice(),
-        )),
+        Command::List { listing, files } => {
+            let listing = listing_of(*listing);
+            tell(alloc, host, files.as_slice(), cmd_log::List { listing })
+        }
+        Command::Show { form, board, files } => {
+            let form = form_of(*form);
+            let board = *board;
+            tell(alloc, host, files.as_slice(), Show { form, board })
+        }
         Command::Play {
             going,
             rows,
@@ -132,7 +120,7 @@ fn act<'a, H: Host, T: Terminal, I: Inputs, C: Chance>(
             keys,
             board,
             files,
-        } => told(play(
+        } => played(play(
             alloc,
             host,
             *words,
@@ -144,18 +132,18 @@ fn act<'a, H: Host, T: Terminal, I: Inputs, C: Chance>(
             console,
         )),
         Command::Lint { strictness, files } => {
-            linted(*strictness, lint(alloc, host, files.as_slice()))
+            let strictness = strictness_of(*strictness);
+            tell(alloc, host, files.as_slice(), Lint { strictness })
         }
         Command::Set {
             file,
             replica,
             words,
-        } => {
-            let words = words.as_slice();
-            set_told(words, set(alloc, host, file, *replica, words))
-        }
+        } => set_words(alloc, host, file, *replica, words.as_slice()),
         Command::Program { board, stat, files } => {
-            told(zed_programs::program(alloc, host, *board, *stat, files.as_slice()))
+            let board = *board;
+            let stat = *stat;
+            tell(alloc, host, files.as_slice(), Program { board, stat })
         }
         Command::SetProgram {
             file,
@@ -163,10 +151,7 @@ fn act<'a, H: Host, T: Terminal, I: Inputs, C: Chance>(
             board,
             stat,
             text,
-        } => drawn(
-            *text,
-            set_program(alloc, host, file, *replica, *board, *stat, text),
-        ),
+        } => set_program(alloc, host, file, *replica, *board, *stat, *text),
     }
 }
 

@@ -12,7 +12,7 @@ use Rattle.zed_edit.specs.Document.{find_text, elements_in}
 use Rattle.zed_code.specs.Pieces.{Shown}
 use Rattle.zed_code.specs.Text.{elements, names_between}
 use Rattle.zed_code.proofs.Names.{part-none}
-use Rattle.zed_names.proofs.Found.{apart}
+use Rattle.zed_stats.proofs.Found.{apart}
 use Rattle.zed_texts.specs.ByName.{text_name, text_in}
 use Rattle.zed_texts.specs.Texts.{Texts, elements_of}
 use Rattle.zed_texts.specs.Shows.{shown_texts}

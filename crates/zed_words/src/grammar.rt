@@ -182,7 +182,7 @@ fn edit_command<'a>(alloc: Global) -> Result<Command<'a>, AllocError>
         several_argument(
             alloc,
             "WORDS",
-            "The action: board-add NAME, board-remove B, board-name B NAME, rank B VALUE (orders the boards: lower ranks come first), exit B north|south|west|east TO (0 for none), cells B X0 Y0 X1 Y1 ELEMENT COLOUR, stat-add B X Y CYCLE, stat-remove B S, insert B S POS TEXT (| ends a line) or delete B S FROM TO; B is a board's number, 0 for the title, and S a stat's on it, 0 for the player",
+            "The action: board-add NAME, board-remove B, board-name B NAME, rank B VALUE (orders the boards: lower ranks come first), exit B north|south|west|east TO (0 for none), cells B X0 Y0 X1 Y1 ELEMENT COLOUR, stat-add B X Y CYCLE, stat-remove B S, insert B S POS TEXT (| ends a line) or delete B S FROM TO; B is a board's number, 0 for the title, and S a stat's on it, 0 for the player; NAME and TEXT are written as the bytes that they are, while zztool set writes code page 437",
         ),
     )
 }

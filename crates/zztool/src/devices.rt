@@ -3,8 +3,7 @@ ghost use Rattle.std.specs.Prelude.{◌≡◌, ◌≤◌, None, IfOk, length};
 
 use std::fs::{self, File};
 use std::io::{self, ErrorKind, Read, Write};
-use zed_staging::{Bytes, DeviceFailed};
-use zed_turns::{Chance, Terminal};
+use zed_terminal::{Bytes, Chance, DeviceFailed, Terminal};
 
 /// A read that was interrupted is made again, so many times.
 const TRIES: u32 = 1024;

@@ -10,11 +10,10 @@ use std::alloc::{AllocError, Global};
 use std::env;
 use std::io::{self, ErrorKind, Write};
 use std::process::ExitCode;
-use zed_staging::Typist;
 use zed_system::SystemHost;
+use zed_terminal::{Console, Typist};
 use zed_tool::run;
 use zed_tool_words::{Command, ParseError, parse};
-use zed_turns::Console;
 
 // The words after the program's name. They are pushed one by one: `collect` goes on after a growth that is refused, with a smaller one.
 fn words_of(rt: &HostRuntime) -> io::Result<Vec<String>> {
@@ -46,11 +45,11 @@ fn writes(host: &mut SystemHost, name: &str) -> io::Result<()> {
     host.writes(name)
 }
 
-// Tells the host that a file is read and then written, if one is named.
-fn holds_if_named(host: &mut SystemHost, name: Option<&str>) -> io::Result<()> {
+// Tells the host that keys or words of chance are kept in a file, if one is named, unless the command uses it for something else.
+fn keeps(host: &mut SystemHost, name: Option<&str>, others: &[&str]) -> io::Result<()> {
     match name {
-        Some(name) => holds(host, name),
-        None => Ok(()),
+        None | Some("stdin" | "stdout") => Ok(()),
+        Some(name) => host.edits_apart(name, others),
     }
 }
 
@@ -80,11 +79,18 @@ fn prepare(rt: &HostRuntime, words: &[String], host: &mut SystemHost) -> io::Res
             Command::Play {
                 words: chance,
                 keys,
+                files: mut others,
                 ..
             },
         ) => {
-            holds_if_named(host, chance)?;
-            holds_if_named(host, keys)
+            if let Some(chance) = chance {
+                others.push(chance)?;
+            }
+            keeps(host, keys, &others)?;
+            if chance.is_some() {
+                others.pop();
+            }
+            keeps(host, chance, &others)
         }
         Ok(Command::Set { file, .. } | Command::SetProgram { file, .. }) => holds(host, file),
         Ok(

@@ -15,7 +15,7 @@ use Rattle.zed_files.specs.Refusals.{file_refusal}
 use Rattle.zed_files.proofs.OffStage.{end_off, file_off, is_off}
 use Rattle.zed_files.proofs.Deliveries.{came_sound}
 use Rattle.zed_files.proofs.FilesRead.{not_lacking, other_than_memory}
-use Rattle.zed_files.proofs.Opened.{has_ended}
+use Rattle.zed_files.proofs.OpenedFiles.{has_ended}
 use Rattle.zed_files.proofs.Settled.{end_ample}
 use Rattle.zed_files.proofs.Streams.{all_read, faulty_file, file_fits, first_there, fit_append, last_file, next_file, next_read, none_left, unread_file, whole_file}
 use Rattle.zed_files.proofs.Wanting.{if_err}

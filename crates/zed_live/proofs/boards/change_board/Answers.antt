@@ -3,7 +3,7 @@ use Rattle.indexmap.proofs.CallerLemmas.{keys-with_value_at}
 use Rattle.indexmap.specs.IndexMap.{set_value_at}
 use Rattle.zed_live.specs.Board.{board_after}
 use Rattle.zed_live.specs.Boards.{board_name}
-use Rattle.zed_names.proofs.Changed.{changed, change-none, unchanged}
+use Rattle.zed_stats.proofs.Changed.{changed, change-none, unchanged}
 use Rattle.zed_live.proofs.Answered.{on_ok, on_err}
 use Rattle.zed_live.proofs.boards.change_board.Goals as goal
 

@@ -1,6 +1,6 @@
 use Rattle.std.proofs.Common.{◌∙◌, ap, sym, is_some}
 use Rattle.indexmap.proofs.CallerLemmas.{keys-with_value_at}
-use Rattle.zed_names.proofs.Changed.{changed, change-none}
+use Rattle.zed_stats.proofs.Changed.{changed, change-none}
 use Rattle.zed_live.specs.Board.{stat_changed}
 use Rattle.zed_live.specs.Boards.{board_name}
 use Rattle.zed_live.proofs.index.change_on.Goals as goal

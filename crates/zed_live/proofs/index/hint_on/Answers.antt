@@ -1,6 +1,6 @@
 use Rattle.std.proofs.Common.{◌∙◌, ap, sym}
 use Rattle.indexmap.specs.IndexMap.{set_value_at}
-use Rattle.zed_names.proofs.Changed.{unchanged}
+use Rattle.zed_stats.proofs.Changed.{unchanged}
 use Rattle.zed_live.specs.Boards.{board_name}
 use Rattle.zed_live.proofs.index.hint_on.Goals as goal
 

@@ -3,16 +3,16 @@ use Rattle.std.proofs.lemmas.Result.{err_from_is_err_and}
 use Rattle.zed_editfile.specs.Spelling.{file_text}
 use Rattle.zed_files.specs.Lines.{held_line, joined_line}
 use Rattle.zed_files.specs.Effects.{Writes}
-use Rattle.zed_making.specs.Merged.{ComesToMerge, IsMerged}
+use Rattle.zed_program.specs.Merged.{ComesToMerge, IsMerged}
 use Rattle.zed_session.specs.Links.{seen}
 use Rattle.zed_files.proofs.Endings.{refused_ends}
-use Rattle.zed_making.proofs.Endings.{written_ends}
-use Rattle.zed_making.proofs.Pulls.{each_of, merge_comes, merge_so, not_merged}
+use Rattle.zed_program.proofs.MergeEndings.{written_ends}
+use Rattle.zed_program.proofs.Pulls.{each_of, merge_comes, merge_so, not_merged}
 use Rattle.zed_files.proofs.Failures.{memory_is_other, memory_on, none_yet, other_on}
 use Rattle.zed_files.proofs.OffStage.{off_on}
 use Rattle.zed_files.specs.declared.refusal.Refusal.TheVariants.{Memory}
-use Rattle.zed_making.proofs.OffStage.{merged_off}
-use Rattle.zed_making.proofs.Others.{merged_is_other}
+use Rattle.zed_program.proofs.MergedOff.{merged_off}
+use Rattle.zed_program.proofs.MergedOthers.{merged_is_other}
 use Rattle.std.proofs.Common.{[], refl}
 use Rattle.zed_files.specs.Asked.{writing}
 use Rattle.zed_files.proofs.Asked.{asks_nothing}

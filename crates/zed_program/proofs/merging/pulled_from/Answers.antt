@@ -4,7 +4,7 @@ use Rattle.std.proofs.lemmas.Result.{err_from_is_err_and}
 use Rattle.zed_document.specs.Replica.{Replica}
 use Rattle.zed_files.specs.Refusals.{link_refusal}
 use Rattle.zed_session.proofs.Places.{shown_same}
-use Rattle.zed_making.proofs.Pulls.{is_merged, not_merged_few, pulling_begins, pulling_ends, pulling_goes_on, pulling_stops}
+use Rattle.zed_program.proofs.Pulls.{is_merged, not_merged_few, pulling_begins, pulling_ends, pulling_goes_on, pulling_stops}
 use Rattle.zed_program.proofs.merging.pulled_from.Goals as goal
 
 pub loop-i-init : goal.loop-i-init

@@ -1,6 +1,6 @@
 use Rattle.std.proofs.Common.{◌≡◌, ◌≤◌, length, map, false}
 use Rattle.zed_session.specs.Links.{seen}
-use Rattle.zed_making.proofs.Pulls.{Pulling}
+use Rattle.zed_program.proofs.Pulls.{Pulling}
 use Rattle.zed_program.proofs.merging.pulled_from.Given as goal
 
 -- what pulls over the links that are left come to, all come to

@@ -4,7 +4,7 @@ use Rattle.zed_words.specs.Commands.{Merge, Save, command_of}
 use Rattle.zed_session.specs.Links.{seen}
 use Rattle.zed_program.specs.Devices.{Devices, devices}
 use Rattle.zed_program.proofs.Endings.{run_calmly}
-use Rattle.zed_making.proofs.Pulls.{each_of}
+use Rattle.zed_program.proofs.Pulls.{each_of}
 use Rattle.zed_program.proofs.Joined.{run_of_links}
 use Rattle.zed_program.proofs.FileTexts.{option_adds, run_of_texts, reads_back, written_is_read}
 use Rattle.zed_program.proofs.Asked.{run_calm}

@@ -4,9 +4,10 @@ use Rattle.zed_words.specs.Commands.{meaning_of, command_of}
 use Rattle.zed_host.proofs.Counts.{rose_before}
 use Rattle.zed_program.proofs.Endings.{refused_run, words_run}
 use Rattle.std.proofs.Common.{◌≡◌, Err, ap, inl, inr, refl}
-use Rattle.zed_program.proofs.Asked.{words_ask}
+use Rattle.zed_program.proofs.Asked.{words_ask, words_steps}
 use Rattle.zed_program.proofs.Called.{none_called_for, status_for}
 use Rattle.zed_program.proofs.Faults.{words_told}
+use Rattle.zed_driver.specs.Hosts.{hosts}
 use Rattle.zed_program.proofs.program.run_words.Goals as goal
 
 pub returns-in-Ok-clause-ends : goal.returns-in-Ok-clause-ends
@@ -24,7 +25,15 @@ returns-in-Ok-act-clause-ends g c = λ t at.
 
 pub returns-in-Ok-clause-asked : goal.returns-in-Ok-clause-asked
 returns-in-Ok-clause-asked g c =
-    rw c.in-Ok.ensures (inr (refl, (c.in-Err-act.refusal, _, c.in-Err-act.ensures.asked, c.complain_of.ensures.asked)))
+    rw c.in-Ok.ensures (inr (inl (refl, (c.in-Err-act.refusal, _, c.in-Err-act.ensures.asked, c.complain_of.ensures.asked))))
+
+-- step by step
+pub returns-in-Ok-act-clause-steps : goal.returns-in-Ok-act-clause-steps
+returns-in-Ok-act-clause-steps g c = rw c.in-Ok.ensures (inl (refl, c.in-Ok-act.ensures.steps))
+
+pub returns-in-Ok-clause-steps : goal.returns-in-Ok-clause-steps
+returns-in-Ok-clause-steps g c =
+    rw c.in-Ok.ensures (inr (inl (refl, (c.in-Err-act.refusal, _, c.in-Err-act.ensures.steps, c.complain_of.ensures.asked))))
 
 -- which devices were called
 pub returns-in-Ok-act-clause-devices : goal.returns-in-Ok-act-clause-devices
@@ -68,6 +77,11 @@ pub returns-clause-asked : goal.returns-clause-asked
 returns-clause-asked g c =
     let told = c.tell_words.ensures.asked in
     words_ask g.H.Host.called (command_of (map string_bytes c.args.words.now)) c.in-Err.error c.tell_words.result told.0 _ _ c.in-Err.ensures told.1 told.2
+
+pub returns-clause-steps : goal.returns-clause-steps
+returns-clause-steps g c =
+    let told = c.tell_words.ensures.asked in
+    words_steps (hosts g.H.Host.contents g.H.Host.called g.H.Host.failed g.H.Host.faults) (command_of (map string_bytes c.args.words.now)) c.in-Err.error c.tell_words.result told.0 _ _ c.in-Err.ensures told.1 told.2
 
 pub returns-clause-devices : goal.returns-clause-devices
 returns-clause-devices g c =

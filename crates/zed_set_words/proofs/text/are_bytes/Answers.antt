@@ -3,7 +3,7 @@ use Rattle.std.specs.Str.{chars}
 use Rattle.std.proofs.lemmas.Iterator.{YieldsList-from_chars}
 use Rattle.std.proofs.lemmas.Iterator.Consumers.{YieldsList-end, YieldsList-turn}
 use Rattle.std.proofs.lemmas.List.{length_push}
-use Rattle.zed_program_text.specs.Characters.{is_known}
+use Rattle.zed_plaintext.specs.Characters.{is_known}
 use Rattle.zed_set_words.specs.Strings.{are_bytes}
 use Rattle.zed_set_words.proofs.Characters.{fit_end, fit_full, fit_more, fit_none}
 use Rattle.zed_set_words.proofs.text.are_bytes.Goals as goal

@@ -1,7 +1,7 @@
 use Rattle.std.proofs.Common.{◌≡◌, ◌++◌, drop, length}
 use Rattle.std.specs.List.{filter_map}
 use Rattle.std.specs.Str.{chars}
-use Rattle.zed_program_text.specs.Characters.{byte_of}
+use Rattle.zed_plaintext.specs.Characters.{byte_of}
 use Rattle.zed_set_words.specs.Strings.{bytes_in}
 use Rattle.zed_set_words.proofs.text.bytes_of.Given as goal
 

@@ -1,5 +1,5 @@
 use Rattle.std.proofs.Common.{map, string_bytes}
-use Rattle.zed_tool.specs.Outcome.{hosts}
+use Rattle.zed_driver.specs.Hosts.{hosts}
 use Rattle.zed_tool.proofs.Endings.{run_accepted, run_calmly, run_helped, run_refused, run_versioned}
 use Rattle.zed_tool_words.specs.Commands.{Take}
 use Rattle.zed_tool.proofs.Made.{run_calm}

@@ -2,7 +2,7 @@ use Rattle.std.proofs.Common.{◌≡◌, ◌∙◌, IsSorted, ap, sym, subst, is
 use Rattle.indexmap.proofs.CallerLemmas.{keys-with_value_at}
 use Rattle.zed_stats.specs.Fields as fields
 use Rattle.zed_stats.specs.Stats.{stat_name, stat_cmp, change}
-use Rattle.zed_names.proofs.Changed.{changed, change-none}
+use Rattle.zed_stats.proofs.Changed.{changed, change-none}
 use Rattle.zed_stats.proofs.stats.Stats.remove.Goals as goal
 
 pub invariant_of-self : goal.invariant_of-self

@@ -8,7 +8,7 @@ use Rattle.zed_code.specs.Text.{has_from}
 use Rattle.zed_texts.specs.Looks.{greatest_sum, looks_of}
 use Rattle.zed_texts.specs.ByName.{text_cmp, text_in, text_name, change}
 use Rattle.zed_texts.specs.Texts.{Texts, elements_of, elements_or_none, AllGrow}
-use Rattle.zed_names.proofs.Changed.{unchanged}
+use Rattle.zed_stats.proofs.Changed.{unchanged}
 use Rattle.zed_texts.proofs.Answered.{any_err}
 use Rattle.zed_texts.proofs.Looks.{looks-rise}
 use Rattle.zed_texts.proofs.TextElements.{elements-at, changed-elements, changed-grow, none-elements, none-grow}

@@ -3,7 +3,7 @@ use Rattle.indexmap.proofs.CallerLemmas.{keys-with_value_at}
 use Rattle.indexmap.specs.IndexMap.{set_value_at}
 use Rattle.zed_texts.specs.Looks.{looks_of}
 use Rattle.zed_texts.specs.ByName.{text_cmp, text_name}
-use Rattle.zed_names.proofs.Changed.{unchanged}
+use Rattle.zed_stats.proofs.Changed.{unchanged}
 use Rattle.zed_texts.proofs.texts.LiveTexts.hint_byte.Goals as goal
 
 pub invariant_of-self : goal.invariant_of-self

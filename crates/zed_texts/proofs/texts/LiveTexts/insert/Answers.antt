@@ -9,7 +9,7 @@ use Rattle.zed_types.specs.Names.{same_text}
 use Rattle.zed_texts.specs.Looks.{greatest_sum, looks_of}
 use Rattle.zed_texts.specs.ByName.{text_cmp, text_name, change, text_in}
 use Rattle.zed_texts.specs.Texts.{Texts, elements_of, elements_or_none, AllGrow}
-use Rattle.zed_names.proofs.Changed.{unchanged}
+use Rattle.zed_stats.proofs.Changed.{unchanged}
 use Rattle.zed_texts.proofs.Answered.{any_err}
 use Rattle.zed_texts.proofs.Looks.{looks-rise}
 use Rattle.zed_texts.proofs.TextElements.{elements-at, found-at, in-elements, changed-elements, changed-grow, none-elements, none-grow}

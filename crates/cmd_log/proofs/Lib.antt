@@ -1,0 +1,3 @@
+pub mod Counted
+pub mod Exported
+pub mod Unfiltered

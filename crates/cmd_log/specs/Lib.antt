@@ -1,0 +1,5 @@
+pub mod Edits
+pub mod Laws
+pub mod Linted
+pub mod Listed
+pub mod Logged

@@ -1,0 +1,9 @@
+mod Counted
+mod Lists
+mod Normal
+mod Nothing
+mod Own
+mod Prints
+mod Reprogrammed
+mod SetSteps
+mod Short

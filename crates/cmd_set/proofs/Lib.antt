@@ -1,0 +1,9 @@
+pub mod Again
+pub mod Back
+pub mod Coming
+pub mod ElementBack
+pub mod Granted
+pub mod Others
+pub mod Read
+pub mod Turns
+pub mod Wants

@@ -1,0 +1,9 @@
+pub mod Boards
+pub mod Chances
+pub mod Endings
+pub mod Idle
+pub mod OffStage
+pub mod Others
+pub mod Played
+pub mod Stepping
+pub mod There

@@ -1,0 +1,8 @@
+use Rattle.std.proofs.Common.{◌∙◌}
+use Rattle.cmd_show.proofs.Chances.{told_more}
+use Rattle.cmd_show.proofs.playing.messages_told.Goals as goal
+
+pub loop-index-preserved : goal.loop-index-preserved
+loop-index-preserved c = record {
+  text = rw c.in_ok-add_message.ensures (told_more c.args.messages.now c.loop-index.index c.message_at.result.now c.loop-index.text.items c.message_at.ensures) ∙ c.loop-index.invariant.text;
+}

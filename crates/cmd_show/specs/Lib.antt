@@ -1,0 +1,4 @@
+pub mod Pictured
+pub mod Shown
+pub mod Stage
+pub mod Told

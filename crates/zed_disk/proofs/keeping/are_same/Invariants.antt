@@ -1,4 +1,0 @@
-use Rattle.zed_disk.proofs.keeping.are_same.Given as goal
-
-abbrev pub decreases-loop-left : goal.decreases-loop-left
-decreases-loop-left l = l.left

@@ -1,9 +1,0 @@
-use Rattle.std.proofs.Common.{◌≡◌, Some, take}
-use Rattle.zed_drawing.specs.Opening.{up_to}
-use Rattle.zed_drawing.proofs.opening.edits_up_to.Given as goal
-
--- the edits so far are copied that are not too late
-abbrev pub invariant-loop-edit : goal.invariant-loop-edit
-invariant-loop-edit l = record {
-  copied : l.copies.items ≡ up_to (Some l.time) (take l.edit-index l.edits);
-}

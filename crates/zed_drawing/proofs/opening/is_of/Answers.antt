@@ -1,6 +1,0 @@
-use Rattle.zed_drawing.proofs.Comparing.{no_text_tells, over_has_none}
-use Rattle.zed_drawing.proofs.opening.is_of.Goals as goal
-
-pub returns-in_default-clause-is : goal.returns-in_default-clause-is
-returns-in_default-clause-is c = λ es saved.
-    no_text_tells es c.args.file.now c.args.world.now saved (over_has_none c.args.world.now c.in-Err.error c.in_default.not-Memory c.in-Err.ensures.result)

@@ -1,7 +1,0 @@
-use Rattle.std.proofs.Common.{◌≡◌, ◌++◌, drop, take}
-use Rattle.zed_list.specs.Program.{first_line}
-use Rattle.zed_list.proofs.program_lines.first_line.Given as goal
-
--- the bytes so far stand in the first line
-abbrev pub invariant-loop-i : goal.invariant-loop-i
-invariant-loop-i l = first_line l.bytes ≡ take l.i l.bytes ++ first_line (drop l.i l.bytes)

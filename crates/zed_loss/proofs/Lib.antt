@@ -1,3 +1,0 @@
-mod Covered
-mod Files
-mod Gathered

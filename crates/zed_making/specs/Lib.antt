@@ -1,3 +1,0 @@
-pub mod Edited
-pub mod Fresh
-pub mod Merged

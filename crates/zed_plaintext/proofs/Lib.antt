@@ -1,0 +1,3 @@
+pub mod Again
+mod Lists
+mod Numbers

@@ -1,7 +1,0 @@
-use Rattle.std.proofs.Common.{◌≡◌, ◌++◌, drop}
-use Rattle.zed_program_text.specs.Reading.{fed_behind, line_fed}
-use Rattle.zed_program_text.proofs.reading.with_line_feeds.Given as goal
-
--- those so far, with what the rest comes to behind the last of them, are all
-abbrev pub invariant-loop-character : goal.invariant-loop-character
-invariant-loop-character l = l.fed.items ++ fed_behind l.before (drop l.character-index l.characters) ≡ line_fed l.characters

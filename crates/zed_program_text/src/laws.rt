@@ -1,7 +1,0 @@
-//! Laws of the texts of programs.
-ghost use Rattle.zed_program_text.specs.Laws.{PrintedIsRead};
-
-/// The text of a program reads back as that program.
-pub fn what_is_printed_is_read()
-    ensures { PrintedIsRead }
-{}

@@ -1,3 +1,0 @@
-mod Plain
-mod SetSteps
-mod Nothing

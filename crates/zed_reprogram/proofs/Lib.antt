@@ -1,6 +1,0 @@
-mod Lists
-mod Counted
-mod Normal
-mod Short
-mod Reprogrammed
-mod Own

@@ -1,5 +1,0 @@
-use Rattle.std.proofs.Common.{◌≡◌, take}
-use Rattle.zed_reprogram.proofs.copies.copy_boards.Given as goal
-
-abbrev pub invariant-loop-board : goal.invariant-loop-board
-invariant-loop-board l = l.copies ≡ take l.board-index l.boards

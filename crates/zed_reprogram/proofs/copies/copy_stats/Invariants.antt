@@ -1,5 +1,0 @@
-use Rattle.std.proofs.Common.{◌≡◌, take}
-use Rattle.zed_reprogram.proofs.copies.copy_stats.Given as goal
-
-abbrev pub invariant-loop-stat : goal.invariant-loop-stat
-invariant-loop-stat l = l.copies ≡ take l.stat-index l.stats

@@ -1,7 +1,0 @@
-use Rattle.std.proofs.Common.{◌≡◌, ◌++◌, drop}
-use Rattle.zed_reprogram.specs.Worlds.{stats_from}
-use Rattle.zed_reprogram.proofs.copies.recoded_stats.Given as goal
-
--- those so far, with what becomes of the rest, are all
-abbrev pub invariant-loop-number : goal.invariant-loop-number
-invariant-loop-number l = l.copies ++ stats_from l.owner l.program l.number (drop l.number l.stats) ≡ stats_from l.owner l.program 0 l.stats

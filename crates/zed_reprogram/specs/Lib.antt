@@ -1,4 +1,0 @@
-pub mod Codes
-pub mod Laws
-pub mod Sizes
-pub mod Worlds

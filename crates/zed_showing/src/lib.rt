@@ -1,7 +1,0 @@
-//! The picture of a board as `zztool` prints it.
-#![tactic(auto)]
-
-mod picturing;
-mod showing;
-
-pub use showing::show;

@@ -1,4 +1,0 @@
-pub mod Devices
-pub mod Laws
-pub mod Staged
-pub mod Typing

@@ -1,0 +1,4 @@
+mod Covered
+mod Files
+mod Gathered
+mod Steps

@@ -1,4 +1,0 @@
-pub mod Endings
-pub mod Exported
-pub mod Others
-pub mod Unfiltered

@@ -1,6 +1,0 @@
-pub mod Edits
-pub mod Laws
-pub mod Linted
-pub mod Listed
-pub mod Logged
-pub mod Told

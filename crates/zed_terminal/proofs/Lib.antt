@@ -1,0 +1,12 @@
+mod Again
+mod Coming
+mod Keys
+mod Messages
+mod Queued
+mod ReadBack
+mod Room
+mod Rows
+mod Sizes
+mod Staying
+mod Supply
+mod Turning

@@ -1,0 +1,13 @@
+pub mod Again
+pub mod Course
+pub mod Devices
+pub mod Errors
+pub mod Performing
+pub mod Record
+pub mod Report
+pub mod SizeLaws
+pub mod Stage
+pub mod Staged
+pub mod Staying
+pub mod Terminals
+pub mod Typing

@@ -1,0 +1,17 @@
+//! Laws of what is typed.
+ghost use Rattle.zed_terminal.specs.SizeLaws.{ArrowsAreKeys, LettersAreKeys, SizesAreTold};
+
+/// The arrows of a terminal are the keys that move, and with shift those that shoot.
+pub fn arrows_are_keys()
+    ensures result { ArrowsAreKeys }
+{}
+
+/// The space waits, and four letters shoot.
+pub fn letters_are_keys()
+    ensures result { LettersAreKeys }
+{}
+
+/// A size is told as a terminal tells it that is asked.
+pub fn sizes_are_told()
+    ensures result { SizesAreTold }
+{}

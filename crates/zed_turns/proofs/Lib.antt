@@ -1,9 +1,0 @@
-mod Again
-mod Coming
-mod Messages
-mod Queued
-mod ReadBack
-mod Room
-mod Staying
-mod Supply
-mod Turning

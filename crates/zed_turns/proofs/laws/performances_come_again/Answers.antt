@@ -1,5 +1,0 @@
-use Rattle.zed_turns.proofs.Coming.{performances_come_again}
-use Rattle.zed_turns.proofs.laws.performances_come_again.Goals as goal
-
-pub returns : goal.returns
-returns c = record { result = performances_come_again }

@@ -1,5 +1,0 @@
-use Rattle.zed_turns.proofs.Staying.{same_until_left}
-use Rattle.zed_turns.proofs.laws.same_until_left.Goals as goal
-
-pub returns : goal.returns
-returns c = record { result = same_until_left }

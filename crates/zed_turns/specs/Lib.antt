@@ -1,9 +1,0 @@
-pub mod Devices
-pub mod Errors
-pub mod Stage
-pub mod Course
-pub mod Again
-pub mod Record
-pub mod Report
-pub mod Performing
-pub mod Staying

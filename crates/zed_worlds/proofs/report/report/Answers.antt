@@ -1,7 +1,0 @@
-use Rattle.zed_worlds.proofs.Reports.{has_text}
-use Rattle.zed_worlds.proofs.report.report.Goals as goal
-
--- what was exported goes over no limit
-pub size_of-requires-clause-within : goal.size_of-requires-clause-within
-size_of-requires-clause-within c =
-    has_text c.args.limit c.args.document.now c.in_ok-world.world c.requires.sound c.in_ok-world.ensures.result

@@ -1,4 +1,0 @@
-pub mod Made
-pub mod Shown
-pub mod Stage
-pub mod Told
