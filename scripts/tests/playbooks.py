@@ -185,7 +185,9 @@ class Act:
                 if words[0] not in KEYS:
                     raise Fault(f"no key {words[0]}")
                 self.key, self.words = KEYS.index(words[0]), chances(words[1:])
-            case "messages" | "picture":
+            case "choose":
+                self.scroll, self.row = numbers(words, 0, 65535, 2)
+            case "messages" | "scrolls" | "picture":
                 numbers(words, 0, 0, 0)
             case "cell":
                 self.column, self.row = number(words[0], 0, 79), number(words[1], 0, 24)

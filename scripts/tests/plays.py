@@ -13,6 +13,7 @@ import subprocess
 import sys
 
 import pictures
+from naming import refusal_in
 from playbooks import Fault, read_book
 from zzt import Board, Stat
 
@@ -23,7 +24,8 @@ ELEMENTS = "    @atgkDs=dbe*/\\.~%#+:O|-, B<lrhUR m^GPLTvHo?"
 # look by the tick, or otherwise in play
 RESTLESS = {15, 16, 17, 28, 30, 39}
 # how a call came out, and what a playtest that failed has besides
-OUTCOMES = ("did", "used", "Over", "Memory", "NoWords", "NoBoard", "failed")
+CHOSEN = ("Sent", "NoLabel", "Gone", "NoFile", "NoChoice")
+OUTCOMES = ("did", "used", "Over", "Memory", "NoWords", "NoBoard", "failed", *CHOSEN)
 passed = failed = 0
 
 
@@ -119,6 +121,26 @@ def changes(before, after):
 
 def lines_of(messages):
     return ["line" + told(it) for it in messages]
+
+
+def scrolls_of(state):
+    """The scrolls of the last step: who spoke, the title, and the lines."""
+    seen = []
+    for line in state.lines:
+        word, *rest = line.split(" ")
+        match word:
+            case "scroll":
+                speaker = "none" if rest == ["-1"] else rest[0]
+            case "title":
+                seen.append(f"scroll {speaker}{told(bytes(map(int, rest)))}")
+            case "said":
+                seen += lines_of([bytes(map(int, rest))])
+    return seen
+
+
+def seen_of_choice(before, after):
+    seen = [it.lower() for it in CHOSEN if after.has(it)] + changes(before, after)
+    return seen if scrolls_of(before) == scrolls_of(after) else seen + ["scrolls differ"]
 
 
 def new_messages(old, new):
@@ -251,15 +273,18 @@ def asked_of(case, script):
             case "opened":
                 last = script.ask("open", 0, 0, act.tick)
                 asked[act] = [last]
-            case "key" | "goes" | "messages" | "picture" | "cell" if last is None:
+            case "key" | "goes" | "messages" | "scrolls" | "choose" | "picture" | "cell" if last is None:
                 raise Fault(f"{act.at}: no playtest was opened")
             case "key" | "goes":
                 asked[act] = [last, script.ask("key", 0, act.key, *act.words)]
                 if act.name == "goes" and script.run()[-1].has("left"):
                     asked[act].append(script.ask("enter", 0, act.board))
                 last = asked[act][-1]
-            case "messages":
+            case "messages" | "scrolls":
                 asked[act] = [last]
+            case "choose":
+                asked[act] = [last, script.ask("choose", 0, act.scroll, act.row)]
+                last = asked[act][-1]
             case "picture" | "cell":
                 asked[act] = [last, script.ask("look", 0)]
     answers = script.run()
@@ -315,7 +340,7 @@ class Stage:
             if made.returncode:
                 raise Fault(f"zzted new: {made.stderr.decode()}")
         ran = subprocess.run([program, *map(str, words), self.edits], input=typed.encode(), capture_output=True, timeout=120)
-        return ran.returncode, ran.stdout.decode("latin-1").split("\n"), ran.stderr.decode()
+        return ran.returncode, ran.stdout.decode("latin-1").split("\n"), refusal_in(ran.stderr.decode(), [*words, self.edits])
 
     def plays(self, what, playtest):
         """Compares a playtest with one of `zzted play`, and its end with one of `zztool play`."""
@@ -379,6 +404,12 @@ def look(stage, what, act, answers, playtests):
             return seen_of_step(answers[0], answers[1], answers[-1])
         case "messages":
             return lines_of(answers[0].bytes("line"))
+        case "scrolls":
+            return scrolls_of(answers[0])
+        case "choose":
+            # zzted has no choices
+            playtests[-1].begins = False
+            return seen_of_choice(*answers)
     state, picture = answers
     is_so(f"{what}: the picture", picture.pairs("cells"), cells_of(state))
     if RESTLESS.isdisjoint(element for element, _ in state.pairs("tiles")):
@@ -434,6 +465,8 @@ class Call:
                 opened, again = answers[at - 1], answers[at + 1]
                 is_over = again.lines[:2] == ["did 0", "Over"] and again.has("failed") and answer.has("failed")
                 return memory and is_over and answer.standing() == again.standing() == opened.standing()
+            case "choose":
+                return memory and answer.standing() == answers[at - 1].standing()
         # drawing takes no memory, only the texts do
         texts = zip(answer.texts, plain[at].texts)
         return answer.lines == plain[at].lines and all(it.lines == ["did 1", "Memory"] or it.lines == old.lines for it, old in texts)
@@ -481,6 +514,11 @@ def calls_of(case):
             calls = [Call("opened", ("open", 0, first.tick))]
             for step in [act for act in case.acts if act.name == "key"][:1]:
                 calls.append(Call("key", ("key", step.key, *step.words), [opened], [("key", 0, step.key, *step.words)]))
+            names = [act.name for act in case.acts]
+            if "choose" in names:
+                chosen, keys = case.acts[names.index("choose")], [act for act in case.acts[: names.index("choose")] if act.name == "key"]
+                steps = [("key", 0, step.key, *step.words) for step in keys]
+                calls.append(Call("choose", ("choose", chosen.scroll, chosen.row), [opened, *steps]))
             if any(act.name in ("picture", "cell") for act in case.acts):
                 calls.append(Call("look", ("look",), [opened]))
             return calls

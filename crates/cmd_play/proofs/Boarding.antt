@@ -4,7 +4,7 @@ use Rattle.std.specs.Prelude.{◌⊎◌, IfErr, IsErrAnd, ⊤}
 use Rattle.zed_export.specs.declared.error.ExportError.{ExportError}
 use Rattle.zed_op.specs.declared.op.Edit.{Edit}
 use Rattle.zed_world.specs.Contents.{Contents}
-use Rattle.zed_play.specs.declared.key.Key.{Key}
+use Rattle.zed_terminal.specs.declared.moves.Move.{Move}
 use Rattle.zed_terminal.specs.declared.input.Input.{Input}
 use Rattle.zed_terminal.specs.declared.input.Size.{Size}
 use Rattle.zed_play.specs.Playtest.{Playtest}
@@ -23,7 +23,7 @@ use Rattle.cmd_play.specs.Boards.{IsPerformed, PerformsAny, PlaysFrom, over_set}
 use Rattle.zed_terminal.specs.Course.{Point, point}
 use Rattle.cmd_play.specs.declared.opening.Going.{Going}
 use Rattle.cmd_play.specs.Opening.{opened, opened_in, over_edits}
-use Rattle.zed_terminal.specs.Stage.{Stage, behind_keys}
+use Rattle.zed_terminal.specs.Stage.{Stage, behind_kept}
 
 -- a limit of an export isn't told as a failure of the host
 pub limit_is_other : (x : ExportError) → export_refusal x ≢ File
@@ -102,7 +102,7 @@ rose_within a b c d before behind rose = on (rose_later a b c before rose)
     on risen = (let more = risen.0 in omega (arith, more, behind), λ few. let more = risen.1 few in omega (arith, more, behind))
 
 -- the keys of a queue that was filled
-pub filled : (taken : ℕ) (kept keys : List Key) (source now : Option (List Input)) → taken ≡ 0 → kept ≡ keys → now ≡ source
-    → behind_keys (drop taken kept) now ≡ behind_keys keys source
+pub filled : (taken : ℕ) (kept keys : List Move) (source now : Option (List Input)) → taken ≡ 0 → kept ≡ keys → now ≡ source
+    → behind_kept (drop taken kept) now ≡ behind_kept keys source
 filled taken kept keys source now none same is =
-    ap (λ n. behind_keys (drop n kept) now) none ∙ ap (λ ks. behind_keys ks now) same ∙ ap (behind_keys keys) is
+    ap (λ n. behind_kept (drop n kept) now) none ∙ ap (λ ks. behind_kept ks now) same ∙ ap (behind_kept keys) is

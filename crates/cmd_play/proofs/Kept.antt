@@ -10,7 +10,7 @@ use Rattle.zed_files.specs.Refusals.{is_key_fault, is_of_keys, is_of_screen, is_
 use Rattle.zed_files.specs.Faults.{NoneForgotten, TellsFailures}
 use Rattle.zed_files.proofs.Endings.{collected_so}
 use Rattle.zed_files.proofs.Failures.{none_later}
-use Rattle.zed_play.specs.declared.key.Key.{Key}
+use Rattle.zed_terminal.specs.declared.moves.Move.{Move}
 use Rattle.zed_terminal.specs.declared.input.Input.{Input}
 use Rattle.zed_terminal.specs.Course.{Point}
 use Rattle.zed_terminal.specs.Devices.{Chances}
@@ -44,7 +44,7 @@ half_as None made bytes t u is half = half
 half_as (Some name) made bytes t u is half = subst (λ b. HalfKept (Some name) b t u) is half
 
 -- what is kept of a playtest
-pub recorded : (words keys : Option (List ℕ)) (p : Point) (rest : List Key) (wb kb : List ℕ) (t : HostContents) (result : Result ⊤ Refusal) (new : Option HostContents)
+pub recorded : (words keys : Option (List ℕ)) (p : Point) (rest : List Move) (wb kb : List ℕ) (t : HostContents) (result : Result ⊤ Refusal) (new : Option HostContents)
     → wb ≡ made_for words (spelled_all p.words) → kb ≡ made_for keys (key_bytes p rest)
     → OnOk result (new ≡ Some (with_kept keys kb (with_kept words wb t)))
     → OnOk result (new ≡ Some (with_record words keys p rest t))
@@ -53,7 +53,7 @@ recorded words keys p rest wb kb t (Ok u) new all_words all_keys kept =
     ∙ ap (with_kept keys (key_bytes p rest)) (kept_as words wb (spelled_all p.words) t all_words))
 recorded words keys p rest wb kb t (Err e) new all_words all_keys kept = tt
 
-pub recorded_half : (words keys : Option (List ℕ)) (p : Point) (rest : List Key) (wb kb : List ℕ) (t : HostContents) (result : Result ⊤ Refusal) (new : Option HostContents)
+pub recorded_half : (words keys : Option (List ℕ)) (p : Point) (rest : List Move) (wb kb : List ℕ) (t : HostContents) (result : Result ⊤ Refusal) (new : Option HostContents)
     → wb ≡ made_for words (spelled_all p.words) → kb ≡ made_for keys (key_bytes p rest)
     → OnErr result (StillTells (λ u. HalfKept words wb t u ⊎ HalfKept keys kb (with_kept words wb t) u) new)
     → IfErr result (λ e. e ≡ File → StillTells (HalfRecorded words keys p rest t) new)
@@ -143,7 +143,7 @@ left_stage drawn drawn_then foretold foretold_then left chance same still =
     ap (λ d. stage d foretold left None chance) (sym same) ∙ ap (λ f. stage drawn_then f left None chance) (sym still)
 
 -- so all that is said of where the devices were led
-pub left_led : (P : Led → Type 0) (before : Stage) (rest : List Key) (drawn drawn_then : Option (List (List ℕ))) (foretold foretold_then : Option (List Bool)) (left : Option (List Input)) (chance : Chances)
+pub left_led : (P : Led → Type 0) (before : Stage) (rest : List Move) (drawn drawn_then : Option (List (List ℕ))) (foretold foretold_then : Option (List Bool)) (left : Option (List Input)) (chance : Chances)
     → drawn_then ≡ drawn → foretold_then ≡ foretold
     → P (record { before = before; rest = rest; behind = stage drawn foretold left None chance })
     → P (record { before = before; rest = rest; behind = stage drawn_then foretold_then left None chance })

@@ -1,14 +1,14 @@
 -- What comes of a board that is played and kept.
 use Rattle.std.specs.Prelude.{◌≡◌, ◌⊎◌, ℕ, List, Option, Some, None, Result, Ok, Err, ⊤}
-use Rattle.zed_play.specs.declared.key.Key.{Key}
+use Rattle.zed_terminal.specs.declared.moves.Move.{Move}
 use Rattle.zed_files.specs.declared.refusal.Refusal.{Refusal}
 use Rattle.zed_files.specs.declared.refusal.Refusal.TheVariants.{File, Memory}
 use Rattle.zed_host.specs.HostContents.{HalfPrinted, HostContents, StillTells, with_printed}
 use Rattle.zed_terminal.specs.declared.input.Size.{Size}
 use Rattle.zed_terminal.specs.Course.{Point}
-use Rattle.zed_terminal.specs.Record.{keys_in, words_in}
+use Rattle.zed_terminal.specs.Record.{moves_in, words_in}
 use Rattle.zed_terminal.specs.Report.{report_of}
-use Rattle.zed_terminal.specs.Stage.{Stage, behind_keys, stage}
+use Rattle.zed_terminal.specs.Stage.{Stage, behind_kept, stage}
 use Rattle.cmd_play.specs.declared.opening.Going.{Going}
 use Rattle.cmd_play.specs.Boards.{IsPerformed}
 use Rattle.cmd_play.specs.Kept.{HalfRecorded, kept_in, with_record}
@@ -29,13 +29,13 @@ abbrev pub request : Option (List ℕ) → Option (List ℕ) → Going → Size 
 request words keys going size board files = record { words = words; keys = keys; going = going; size = size; board = board; files = files }
 
 -- a stage where keys come before what is typed
-abbrev pub with_keys : List Key → Stage → Stage
-with_keys keys s = stage s.drawn s.terminal (behind_keys keys s.inputs) None s.chance
+abbrev pub with_keys : List Move → Stage → Stage
+with_keys keys s = stage s.drawn s.terminal (behind_kept keys s.inputs) None s.chance
 
 -- the board is played by what is kept, and then by what is typed
 abbrev pub IsPlayed : Type 0 → HostContents → Request → Led → Result Point Refusal → Type 0
 IsPlayed failed t q l r =
-    IsPerformed failed t q.going q.board q.size (words_in (kept_in t q.words)) q.files (with_keys (keys_in (kept_in t q.keys)) l.before) (with_keys l.rest l.behind) r
+    IsPerformed failed t q.going q.board q.size (words_in (kept_in t q.words)) q.files (with_keys (moves_in (kept_in t q.keys)) l.before) (with_keys l.rest l.behind) r
 
 -- what a host holds once a playtest is kept
 abbrev pub kept_after : Request → Led → Point → HostContents → HostContents

@@ -1,9 +1,9 @@
 -- A playtest that is kept in two files: its words of chance in the one, its keys in the other.
 use Rattle.std.specs.Prelude.{◌⊎◌, ◌<◌, ℕ, List, [], ◌++◌, length, Option, Some, None}
-use Rattle.zed_play.specs.declared.key.Key.{Key}
+use Rattle.zed_terminal.specs.declared.moves.Move.{Move}
 use Rattle.zed_host.specs.HostContents.{HalfWritten, HostContents, file_in, with_file}
 use Rattle.zed_terminal.specs.Course.{Point}
-use Rattle.zed_terminal.specs.Record.{letters_of, spelled_all}
+use Rattle.zed_terminal.specs.Record.{spelled_moves, spelled_all}
 
 -- the bytes of a file, or none where there is no file
 abbrev pub bytes_or_none : Option (List ℕ) → List ℕ
@@ -31,18 +31,18 @@ HalfKept None bytes t u = ⊥
 HalfKept (Some name) bytes t u = HalfWritten name bytes t u
 
 -- the file of keys that were played, and of others behind them
-abbrev pub key_bytes : Point → List Key → List ℕ
-key_bytes p rest = letters_of p.keys ++ letters_of rest
+abbrev pub key_bytes : Point → List Move → List ℕ
+key_bytes p rest = spelled_moves p.keys ++ spelled_moves rest
 
 -- a playtest is kept in the files of these names, with keys that weren't played behind those that were
-abbrev pub with_record : Option (List ℕ) → Option (List ℕ) → Point → List Key → HostContents → HostContents
+abbrev pub with_record : Option (List ℕ) → Option (List ℕ) → Point → List Move → HostContents → HostContents
 with_record words keys p rest t = with_kept keys (key_bytes p rest) (with_kept words (spelled_all p.words) t)
 
 -- one of these files is named, and gets bytes
-abbrev pub IsRecorded : Option (List ℕ) → Option (List ℕ) → Point → List Key → Type 0
+abbrev pub IsRecorded : Option (List ℕ) → Option (List ℕ) → Point → List Move → Type 0
 IsRecorded words keys p rest = (0 < length (made_for words (spelled_all p.words))) ⊎ (0 < length (made_for keys (key_bytes p rest)))
 
 -- that failed at the one file; or that one is whole, and it failed at the other
-abbrev pub HalfRecorded : Option (List ℕ) → Option (List ℕ) → Point → List Key → HostContents → HostContents → Type 0
+abbrev pub HalfRecorded : Option (List ℕ) → Option (List ℕ) → Point → List Move → HostContents → HostContents → Type 0
 HalfRecorded words keys p rest t u =
     HalfKept words (spelled_all p.words) t u ⊎ HalfKept keys (key_bytes p rest) (with_kept words (spelled_all p.words) t) u

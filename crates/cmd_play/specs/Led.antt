@@ -1,6 +1,6 @@
 -- Where the devices of a playtest are led.
 use Rattle.std.specs.Prelude.{ℕ, Bool, List, Option, None, drop}
-use Rattle.zed_play.specs.declared.key.Key.{Key}
+use Rattle.zed_terminal.specs.declared.moves.Move.{Move}
 use Rattle.zed_terminal.specs.declared.input.Input.{Input}
 use Rattle.zed_terminal.specs.declared.console.Console.{Console}
 use Rattle.zed_terminal.specs.Devices.{chances}
@@ -26,13 +26,13 @@ stage_of d c =
     stage (d.drawn c.terminal) (d.draws_foretell c.terminal) (d.left c.inputs.source) None (chances (d.to_come c.chance) (d.chance_failures c.chance))
 
 -- those keys, as far as they weren't taken
-abbrev pub rest_of : {T I C : Type 0} → Console T I C → List Key
+abbrev pub rest_of : {T I C : Type 0} → Console T I C → List Move
 rest_of c = drop c.inputs.taken c.inputs.kept.items
 
 -- where devices are led: what they tell before a playtest, which of the keys that were kept are left behind it, and what they tell then
 pub record Led : Type 0 where
   pub before : Stage
-  pub rest : List Key
+  pub rest : List Move
   pub behind : Stage
 
 -- from the one console to the other

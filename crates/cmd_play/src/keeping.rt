@@ -7,15 +7,14 @@ ghost use Rattle.zed_files.specs.Asked.{Asks, named, refusal_in};
 ghost use Rattle.zed_files.specs.Faults.{TellsFailures};
 ghost use Rattle.zed_files.specs.Texts.{text_in};
 ghost use Rattle.zed_terminal.specs.Course.{point};
-ghost use Rattle.zed_terminal.specs.Record.{keys_in, letters_of, spelled_all, words_in};
+ghost use Rattle.zed_terminal.specs.Record.{moves_in, spelled_moves, spelled_all, words_in};
 ghost use Rattle.cmd_play.specs.Asking.{AsksBehind, AsksKept, AsksNoMore, keeping};
 ghost use Rattle.cmd_play.specs.Kept.{HalfKept, HalfRecorded, IsRecorded, bytes_or_none, kept_in, key_bytes, made_for, with_kept, with_record};
 
 use std::alloc::{AllocError, Global};
 use zed_files::Refusal;
 use zed_host::{Host, ReadError};
-use zed_play::Key;
-use zed_terminal::{Tape, keys_in, put_letters, put_words, words_in};
+use zed_terminal::{Move, Tape, moves_in, put_moves, put_words, words_in};
 
 /// The bytes of the file of a name, or none where there is no such file.
 fn bytes_of<H: Host>(alloc: Global, host: &mut H, name: &str) -> Result<Vec<u8>, Refusal>
@@ -86,23 +85,23 @@ fn keep<H: Host>(host: &mut H, name: Option<&str>, bytes: &[u8]) -> Result<(), R
     }
 }
 
-/// The file of keys that were played, and of others behind them.
-fn letters_in(alloc: Global, keys: &[Key], rest: &[Key]) -> Result<Vec<u8>, AllocError>
-    ensures ok { IfOk result (λ bytes. bytes.items ≡ letters_of keys.now ++ letters_of rest.now) }
+/// The file of moves that were made, and of others behind them.
+fn key_bytes_of(alloc: Global, keys: &[Move], rest: &[Move]) -> Result<Vec<u8>, AllocError>
+    ensures ok { IfOk result (λ bytes. bytes.items ≡ spelled_moves keys.now ++ spelled_moves rest.now) }
     ensures memory_only_when { OnErr result
-        (0 < length (letters_of keys.now ++ letters_of rest.now)) }
+        (0 < length (spelled_moves keys.now ++ spelled_moves rest.now)) }
 {
     let mut bytes = Vec::new(alloc);
-    put_letters(&mut bytes, keys)?;
-    put_letters(&mut bytes, rest)?;
+    put_moves(&mut bytes, keys)?;
+    put_moves(&mut bytes, rest)?;
     Ok(bytes)
 }
 
-/// What was kept of a playtest: its words of chance, and its keys.
+/// What was kept of a playtest: its words of chance, and its moves.
 #[derive(Drop)]
 pub(crate) struct Kept {
     pub words: Vec<u16>,
-    pub keys: Vec<Key>,
+    pub keys: Vec<Move>,
 }
 
 /// What is kept in the files of two names, as far as there are such.
@@ -114,7 +113,7 @@ pub(crate) fn read_kept<H: Host>(
 ) -> Result<Kept, Refusal>
     ensures read { (t : HostContents) → H.contents host.old ≡ Some t
         → IfOk result (λ kept. (kept.words.items ≡ words_in (kept_in t (text_in words.entry)))
-        × (kept.keys.items ≡ keys_in (kept_in t (text_in keys.entry)))) }
+        × (kept.keys.items ≡ moves_in (kept_in t (text_in keys.entry)))) }
     ensures kept { H.contents host.new ≡ H.contents host.old }
     ensures err { IfErr result (λ e. (e ≡ Refusal.Memory)
         ⊎ ((e ≡ Refusal.File) × Rose (H.faults host.old) (H.faults host.new))) }
@@ -125,7 +124,7 @@ pub(crate) fn read_kept<H: Host>(
     let word_bytes = kept_in(alloc, host, words)?;
     let key_bytes = kept_in(alloc, host, keys)?;
     let words = words_in(alloc, word_bytes.as_slice())?;
-    let keys = keys_in(alloc, key_bytes.as_slice())?;
+    let keys = moves_in(alloc, key_bytes.as_slice())?;
     Ok(Kept { words, keys })
 }
 
@@ -152,20 +151,20 @@ fn words_for(alloc: Global, name: Option<&str>, words: &[u16]) -> Result<Vec<u8>
     }
 }
 
-/// The file of keys that were played, and of others behind them, if it is named.
-fn letters_for(
+/// The file of moves that were made, and of others behind them, if it is named.
+fn keys_for(
     alloc: Global,
     name: Option<&str>,
-    keys: &[Key],
-    rest: &[Key],
+    keys: &[Move],
+    rest: &[Move],
 ) -> Result<Vec<u8>, AllocError>
     ensures ok { IfOk result (λ bytes. bytes.items
-        ≡ made_for (text_in name.entry) (letters_of keys.now ++ letters_of rest.now)) }
+        ≡ made_for (text_in name.entry) (spelled_moves keys.now ++ spelled_moves rest.now)) }
     ensures memory_only_when { OnErr result
-        (0 < length (made_for (text_in name.entry) (letters_of keys.now ++ letters_of rest.now))) }
+        (0 < length (made_for (text_in name.entry) (spelled_moves keys.now ++ spelled_moves rest.now))) }
 {
     match name {
-        Some(_) => letters_in(alloc, keys, rest),
+        Some(_) => key_bytes_of(alloc, keys, rest),
         None => Ok(Vec::new(alloc)),
     }
 }
@@ -202,7 +201,7 @@ pub(crate) fn keep_all<H: Host>(
     words: Option<&str>,
     keys: Option<&str>,
     tape: &Tape,
-    rest: &[Key],
+    rest: &[Move],
 ) -> Result<(), Refusal>
     ensures ok { (t : HostContents) → H.contents host.old ≡ Some t → OnOk result
         (H.contents host.new ≡ Some (with_record
@@ -220,7 +219,7 @@ pub(crate) fn keep_all<H: Host>(
     ensures failures { TellsFailures H.faults H.failed result host.old host.new }
 {
     let word_bytes = words_for(alloc, words, tape.words.as_slice())?;
-    let key_bytes = letters_for(alloc, keys, tape.keys.as_slice(), rest)?;
+    let key_bytes = keys_for(alloc, keys, tape.keys.as_slice(), rest)?;
     keep_both(
         host,
         words,

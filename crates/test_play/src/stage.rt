@@ -130,6 +130,19 @@ impl<'a> Stage<'a> {
         self.tell(stepped)
     }
 
+    fn choose(&mut self, growth: u16, scroll: u16, line: u16) -> Option<()> {
+        let play = self.play.as_mut()?;
+        refuse(self.alloc, growth);
+        let chosen = play.choose(usize::from(scroll), usize::from(line));
+        self.sheet.did(self.alloc);
+        match chosen {
+            Ok(chosen) => self.sheet.error(&chosen),
+            Err(_) => self.sheet.error(&PlayError::Memory),
+        }
+        put_play(play, &mut self.sheet);
+        Some(())
+    }
+
     /// Copies the board of the playtest, or once more the copy that is there.
     fn copy(&mut self, growth: u16) -> Option<()> {
         refuse(self.alloc, growth);
@@ -176,6 +189,7 @@ impl<'a> Stage<'a> {
         match (word, numbers) {
             ("open", [growth, board, tick]) => self.open(*growth, *board, *tick),
             ("key", [growth, key, words @ ..]) => self.press(*growth, *key, words),
+            ("choose", [growth, scroll, line]) => self.choose(*growth, *scroll, *line),
             ("enter", [growth, board]) => self.enter(*growth, *board),
             ("copy", [growth]) => self.copy(*growth),
             ("turn", [growth, stat, words @ ..]) => self.turn(*growth, *stat, words),

@@ -73,6 +73,16 @@ fn put_messages(play: &Play, sheet: &mut Sheet) {
     }
 }
 
+/// Of each scroll the number of the stat that spoke, the title, and what was said.
+fn put_scrolls(play: &Play, sheet: &mut Sheet) {
+    for scroll in play.scrolls() {
+        sheet.line("scroll");
+        sheet.size(scroll.speaker);
+        sheet.bytes("title", scroll.title.as_slice());
+        put_all("said", scroll.lines.as_slice(), sheet);
+    }
+}
+
 fn put_ending(ending: Option<Ending>, sheet: &mut Sheet) {
     match ending {
         None => {}
@@ -82,9 +92,10 @@ fn put_ending(ending: Option<Ending>, sheet: &mut Sheet) {
     }
 }
 
-/// A playtest: its messages, its board, the keys that are held, the tick of the next step, and its end.
+/// A playtest: its messages, its scrolls, its board, the keys that are held, the tick of the next step, and its end.
 pub fn put_play(play: &Play, sheet: &mut Sheet) {
     put_messages(play, sheet);
+    put_scrolls(play, sheet);
     put_scene(play.board(), sheet);
     sheet.line("keys");
     for key in play.counters().keys {

@@ -7,3 +7,4 @@ pub mod Making
 pub mod Effect
 pub mod Turn
 pub mod Laws
+pub mod Choosing

@@ -1,5 +1,5 @@
 -- Messages to labels, and labels that are hidden and shown again.
-use Rattle.std.specs.Prelude.{ℕ, zero, suc, ◌+◌, Bool, false, not, ◌&&◌, ◌||◌, ◌==◌, nat_le, nat_lt, if◌then◌else◌, List, length, take, drop, slice_get, slice_set, position, Option, Some, None, codes}
+use Rattle.std.specs.Prelude.{ℕ, zero, suc, ◌+◌, Bool, false, not, ◌&&◌, ◌||◌, ◌==◌, nat_le, nat_lt, if◌then◌else◌, List, length, take, drop, slice_get, slice_set, position, Option, Some, None, is_some, codes}
 use Rattle.std.specs.List.{list_any}
 use Rattle.std.specs.Str.{bytes_eq}
 use Rattle.zed_scene.specs.declared.stat.Stat.{Stat}
@@ -114,6 +114,21 @@ sent_alone l i s = sent_alone_to l i (slice_get s.stats i) s
 -- a word `T:L` is sent: the position of each target that has the label is set to it
 unfoldable pub sent : List ℕ → Scene → Sent
 sent w s = for_each (send_one w) (length s.stats) (so_far s false)
+
+-- whether a word comes to stat i, and the label is there
+abbrev pub is_heard_by : List ℕ → ℕ → Option Stat → Scene → Bool
+is_heard_by w i None s = false
+is_heard_by w i (Some a) s =
+    is_reached (program_of s a.program) w i (is_own s i) a
+    && is_some (label_place (program_of s a.program) (label_of w))
+
+-- whether stat i hears a word, or one did before
+abbrev pub or_heard_by : List ℕ → Scene → ℕ → Bool → Bool
+or_heard_by w s i before = before || is_heard_by w i (slice_get s.stats i) s
+
+-- whether any stat hears a word that is sent
+unfoldable pub is_heard : List ℕ → Scene → Bool
+is_heard w s = for_each (or_heard_by w s) (length s.stats) false
 
 -- whether a colon is in a word, so that it names a target
 abbrev pub has_colon : List ℕ → Bool

@@ -2,6 +2,7 @@
 #![tactic(auto)]
 
 mod acting;
+mod choosing;
 mod holding;
 mod laws;
 mod leading;
@@ -12,6 +13,7 @@ mod sending;
 mod testing;
 mod turning;
 
+pub use choosing::{Chosen, choose};
 pub use holding::{give, take};
 pub use laws::{first_words_are_used, idle_turns_take_no_memory, one_turn};
 pub use leading::led;
@@ -19,11 +21,11 @@ pub use sending::send_alone;
 pub use testing::holds;
 pub use turning::{Effects, have_turn, turn};
 pub use zed_scene::{
-    BREAKABLE, BULLET, Counters, PLAYER, Scene, SceneError, Shooter, Stat, Step, WATER, Words,
-    ahead, apart, clockwise, counter_clockwise, is_destructible, is_on_board, is_walkable,
+    BREAKABLE, BULLET, Counters, PLAYER, Scene, SceneError, Scroll, Shooter, Stat, Step, WATER,
+    Words, ahead, apart, clockwise, counter_clockwise, is_destructible, is_on_board, is_walkable,
     opposite, random_step, sign, tile_in,
 };
 pub use zed_script::{
     Counter, Course, Heading, Instruction, Line, LineKind, OopCommand, Program, Query, Test,
-    TileKind, Turning, condition, direction, kind, next_command, standing_at,
+    TileKind, Turning, condition, direction, kind, name_of, next_command, standing_at,
 };

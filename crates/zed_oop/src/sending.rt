@@ -1,6 +1,6 @@
 //! Messages to labels, and labels that are hidden and shown again.
 ghost use Rattle.std.specs.Prelude.{◌≡◌, IfSome, None, position, slice_get};
-ghost use Rattle.zed_oop.specs.Sending.{arrived, is_colon, is_meant, is_named, is_number, is_own, is_reached, is_target, label_of, restore_at, restored_in, send_one, sent, sent_alone, set_to, so_far, zapped_in};
+ghost use Rattle.zed_oop.specs.Sending.{arrived, is_colon, is_meant, is_named, is_number, is_own, is_reached, is_target, label_of, restore_at, restored_in, is_heard, is_heard_by, or_heard_by, send_one, sent, sent_alone, set_to, so_far, zapped_in};
 
 use zed_scene::{Scene, Stat};
 use zed_script::{byte_is, first_label, is_restart, is_word, is_word_at, label_at, label_place};
@@ -189,6 +189,39 @@ pub(crate) fn send(scene: &mut Scene, word: &[u8]) -> bool
         Some(_) => send_to_all(scene, word),
         None => send_to_own(scene, word),
     }
+}
+
+/// Whether a word that is sent comes to stat i, which has the label.
+fn is_heard_by(scene: &Scene, word: &[u8], i: usize) -> bool
+    ensures { result ≡ is_heard_by word.now i (slice_get scene.now.stats i) scene.now }
+{
+    match scene.stat_ref(i) {
+        Some(stat) => {
+            let program = scene.program(stat.program);
+            is_reached(program, word, i, is_own(scene, i), stat)
+                && label_place(program, label_of(word)).is_some()
+        }
+        None => false,
+    }
+}
+
+fn or_heard_by(scene: &Scene, word: &[u8], i: usize, before: bool) -> bool
+    ensures { result ≡ or_heard_by word.now scene.now i before }
+{
+    before || is_heard_by(scene, word, i)
+}
+
+/// Whether any stat hears a word that is sent.
+#[tactic(auto, unfolding(crate::specs::Sending::is_heard))]
+pub(crate) fn is_heard(scene: &Scene, word: &[u8]) -> bool
+    ensures { result ≡ is_heard word.now scene.now }
+{
+    let n = scene.stats().len();
+    let mut heard = false;
+    for i in 0..n {
+        heard = or_heard_by(scene, word, i, heard);
+    }
+    heard
 }
 
 /// Sends a label to stat i alone, if it isn't locked.

@@ -1,5 +1,5 @@
 -- A step uses words of chance from the front, and those behind can be any others.
-use Rattle.std.proofs.Common.{◌≡◌, ◌∙◌, ◌++◌, ℕ, nat_lt, if◌then◌else◌, suc, Bool, true, false, List, [], Option, Some, None, refl, sym, ap, subst, append_assoc}
+use Rattle.std.proofs.Common.{◌≡◌, ◌∙◌, ◌++◌, ℕ, nat_lt, if◌then◌else◌, suc, Bool, true, false, List, [], slice_get, Option, Some, None, refl, sym, ap, subst, append_assoc}
 use Rattle.zed_types.specs.declared.tile.Place.{Place}
 use Rattle.zed_types.specs.declared.property.Side.{Side}
 use Rattle.zed_scene.specs.declared.stat.Stat.{Stat}
@@ -19,7 +19,10 @@ use Rattle.zed_play.specs.declared.key.Key.{Key}
 use Rattle.zed_play.specs.declared.piece.Piece.{Piece}
 use Rattle.zed_play.specs.declared.piece.Piece.TheVariants.{Player, Bullet, Bear, Object, Pusher, Lion, Tiger}
 use Rattle.zed_play.specs.Creatures.{lion, lion_step, prowls, tiger, tiger_fires}
-use Rattle.zed_play.specs.Game.{Then, TurnOf, kept, with_scene}
+use Rattle.zed_play.specs.declared.scrolls.Voice.{Voice}
+use Rattle.zed_play.specs.declared.scrolls.Voice.TheVariants.{Object as VoiceOfObject, Scroll as VoiceOfScroll}
+use Rattle.zed_play.specs.Scrolls.{program_in}
+use Rattle.zed_play.specs.Game.{Then, TurnOf, heard, with_scene}
 use Rattle.zed_play.specs.Objects.{ObjectDoes, drifted}
 use Rattle.zed_play.specs.Player.{GoesTo, PlayerDoes, step_of, walks}
 use Rattle.zed_play.specs.Playtest.{Playtest}
@@ -65,17 +68,17 @@ front_then f R front ws left x (Some (y, rest), (r, is)) =
     let z = front ws rest y r in
     (z.0, (z.1.0 ∙ ap (λ l. z.0 ++ l) (sym (ap (λ p. p.1) pair)), λ more. (Some (y, more), (z.1.1 more, ap (λ v. Some (v, more)) value))))
 
-front_turn : (i : ℕ) (g : Game) → Front (λ ws. TurnOf i g ws)
-front_turn i g ws left x (None, (t, is)) = absurd (cc)
-front_turn i g ws left x (Some u, (t, is)) =
-    let pair : ◌≡◌ {A = Game × List ℕ} (x, left) (record g { scene = u.scene; messages = kept (g.messages ++ u.lines) }, u.left) = cc in
-    let value : x ≡ record g { scene = u.scene; messages = kept (g.messages ++ u.lines) } = ap (λ p. p.0) pair in
+front_turn : (v : Voice) (i : ℕ) (g : Game) → Front (λ ws. TurnOf v i g ws)
+front_turn v i g ws left x (None, (t, is)) = absurd (cc)
+front_turn v i g ws left x (Some u, (t, is)) =
+    let pair : ◌≡◌ {A = Game × List ℕ} (x, left) (heard v (program_in (slice_get g.scene.stats i)) g u, u.left) = cc in
+    let value : x ≡ heard v (program_in (slice_get g.scene.stats i)) g u = ap (λ p. p.0) pair in
     let z = turn_front g.scene i ws u t in
     (z.0, (z.1.0 ∙ ap (λ l. z.0 ++ l) (sym (ap (λ p. p.1) pair)), λ more. (Some (record u { left = more }), (z.1.1 more, ap (λ v. Some (v, more)) value))))
 
 front_touch_as : (o : Option ℕ) (n : Place) (d : Way) (g : Game) → Front (λ ws. TouchesAs o n d g ws)
 front_touch_as None n d g = front_none _
-front_touch_as (Some i) n d g = front_then closed (λ ws. TurnOf i (opened i g) ws) (front_turn i (opened i g))
+front_touch_as (Some i) n d g = front_then closed (λ ws. TurnOf VoiceOfScroll i (opened i g) ws) (front_turn VoiceOfScroll i (opened i g))
 
 front_touch : (n : Place) (d : Way) (g : Game) → Front (λ ws. Touches n d g ws)
 front_touch n d g = front_touch_as (scroll_at n g.scene) n d g
@@ -91,7 +94,7 @@ front_player (Goes side) b from g = front_go _ side b from g
 
 front_object : (o : Option ℕ) (i : ℕ) (g : Game) → Front (λ ws. ObjectDoes o i g ws)
 front_object None i g = front_none _
-front_object (Some at) i g = front_then drifted (λ ws. TurnOf i g ws) (front_turn i g)
+front_object (Some at) i g = front_then drifted (λ ws. TurnOf VoiceOfObject i g ws) (front_turn VoiceOfObject i g)
 
 front_tick : (t : Piece) (k : Asked) (i : ℕ) (a : Stat) (g : Game) → Front (λ ws. TickAs t k i a g ws)
 front_tick Player k i a g = front_player k.intent k.bounds a.place g

@@ -1,5 +1,5 @@
 -- A step has an outcome, as a turn of a program has.
-use Rattle.std.proofs.Common.{◌≡◌, ℕ, zero, suc, Bool, true, false, List, Option, Some, None, refl}
+use Rattle.std.proofs.Common.{◌≡◌, ℕ, zero, suc, Bool, true, false, List, slice_get, Option, Some, None, refl}
 use Rattle.zed_types.specs.declared.tile.Place.{Place}
 use Rattle.zed_types.specs.declared.property.Side.{Side}
 use Rattle.zed_scene.specs.declared.stat.Stat.{Stat}
@@ -16,6 +16,9 @@ use Rattle.zed_play.specs.declared.key.Intent.TheVariants.{Nothing, Goes, Shoots
 use Rattle.zed_play.specs.declared.key.Key.{Key}
 use Rattle.zed_play.specs.declared.piece.Piece.{Piece}
 use Rattle.zed_play.specs.declared.piece.Piece.TheVariants.{Player, Ammo, Torch, Gem, Key as KeyPiece, Door, Scroll, Passage, Energizer, Bullet, Forest, Boulder, Slider, Invisible, Bear, Object, Pusher, Lion, Tiger, Other}
+use Rattle.zed_play.specs.declared.scrolls.Voice.{Voice}
+use Rattle.zed_play.specs.declared.scrolls.Voice.TheVariants.{Object as VoiceOfObject, Scroll as VoiceOfScroll}
+use Rattle.zed_play.specs.Scrolls.{program_in}
 use Rattle.zed_play.specs.Game.{Then, TurnOf, done, told}
 use Rattle.zed_play.specs.Objects.{ObjectDoes, drifted}
 use Rattle.zed_play.specs.Player.{GoesTo, PlayerDoes, step_of, walks}
@@ -32,15 +35,15 @@ HasSome {X} R = (a : X) × R a
 abbrev pub TurnHasSome : Type 0
 TurnHasSome = (s : Scene) (i : ℕ) (ws : List ℕ) → HasSome (Turn s i ws)
 
-turn_some : TurnHasSome → (i : ℕ) (g : Game) (ws : List ℕ) → HasSome (TurnOf i g ws)
-turn_some some i g ws = let t = some g.scene i ws in (told g t.0, (t.0, (t.1, refl)))
+turn_some : TurnHasSome → (v : Voice) (i : ℕ) (g : Game) (ws : List ℕ) → HasSome (TurnOf v i g ws)
+turn_some some v i g ws = let t = some g.scene i ws in (told v (program_in (slice_get g.scene.stats i)) g t.0, (t.0, (t.1, refl)))
 
 then_some : (f : Game → Game) (R : Drawn Game → Type 0) → HasSome R → HasSome (Then f R)
 then_some f R (o, r) = (done f o, (o, (r, refl)))
 
 touch_some_as : TurnHasSome → (o : Option ℕ) (n : Place) (d : Way) (g : Game) (ws : List ℕ) → HasSome (TouchesAs o n d g ws)
 touch_some_as some None n d g ws = (_, refl)
-touch_some_as some (Some i) n d g ws = then_some closed (TurnOf i (opened i g) ws) (turn_some some i (opened i g) ws)
+touch_some_as some (Some i) n d g ws = then_some closed (TurnOf VoiceOfScroll i (opened i g) ws) (turn_some some VoiceOfScroll i (opened i g) ws)
 
 touch_some : TurnHasSome → (n : Place) (d : Way) (g : Game) (ws : List ℕ) → HasSome (Touches n d g ws)
 touch_some some n d g ws = touch_some_as some (scroll_at n g.scene) n d g ws
@@ -59,7 +62,7 @@ player_some some (Goes side) bounds from g ws = go_some some (ahead from (step_o
 
 object_some : TurnHasSome → (o : Option ℕ) (i : ℕ) (g : Game) (ws : List ℕ) → HasSome (ObjectDoes o i g ws)
 object_some some None i g ws = (_, refl)
-object_some some (Some at) i g ws = then_some drifted (TurnOf i g ws) (turn_some some i g ws)
+object_some some (Some at) i g ws = then_some drifted (TurnOf VoiceOfObject i g ws) (turn_some some VoiceOfObject i g ws)
 
 tick_some : TurnHasSome → (t : Piece) (k : Asked) (i : ℕ) (s : Stat) (g : Game) (ws : List ℕ) → HasSome (TickAs t k i s g ws)
 tick_some some Player k i s g ws = player_some some k.intent k.bounds s.place g ws

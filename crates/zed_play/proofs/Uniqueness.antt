@@ -1,5 +1,5 @@
 -- A step has one outcome, as a turn of a program has.
-use Rattle.std.proofs.Common.{◌≡◌, ◌∙◌, ℕ, Bool, true, false, List, Option, Some, None, refl, sym, ap, subst}
+use Rattle.std.proofs.Common.{◌≡◌, ◌∙◌, ℕ, Bool, true, false, List, slice_get, Option, Some, None, refl, sym, ap, subst}
 use Rattle.zed_types.specs.declared.tile.Place.{Place}
 use Rattle.zed_types.specs.declared.property.Side.{Side}
 use Rattle.zed_scene.specs.declared.stat.Stat.{Stat}
@@ -15,6 +15,9 @@ use Rattle.zed_play.specs.declared.key.Intent.TheVariants.{Nothing, Goes, Shoots
 use Rattle.zed_play.specs.declared.key.Key.{Key}
 use Rattle.zed_play.specs.declared.piece.Piece.{Piece}
 use Rattle.zed_play.specs.declared.piece.Piece.TheVariants.{Player, Bullet, Bear, Object, Pusher, Lion, Tiger}
+use Rattle.zed_play.specs.declared.scrolls.Voice.{Voice}
+use Rattle.zed_play.specs.declared.scrolls.Voice.TheVariants.{Object as VoiceOfObject, Scroll as VoiceOfScroll}
+use Rattle.zed_play.specs.Scrolls.{program_in}
 use Rattle.zed_play.specs.Game.{Then, TurnOf, done, told}
 use Rattle.zed_play.specs.Objects.{ObjectDoes, drifted}
 use Rattle.zed_play.specs.Player.{GoesTo, PlayerDoes, step_of, walks}
@@ -31,15 +34,15 @@ IsOne {X} R = (a b : X) → R a → R b → a ≡ b
 abbrev pub TurnIsOne : Type 0
 TurnIsOne = (s : Scene) (i : ℕ) (ws : List ℕ) (a b : Option State) → Turn s i ws a → Turn s i ws b → a ≡ b
 
-turn_one : TurnIsOne → (i : ℕ) (g : Game) (ws : List ℕ) → IsOne (TurnOf i g ws)
-turn_one one i g ws a b (o, (t, is)) (p, (u, also)) = is ∙ ap (told g) (one g.scene i ws o p t u) ∙ sym also
+turn_one : TurnIsOne → (v : Voice) (i : ℕ) (g : Game) (ws : List ℕ) → IsOne (TurnOf v i g ws)
+turn_one one v i g ws a b (o, (t, is)) (p, (u, also)) = is ∙ ap (told v (program_in (slice_get g.scene.stats i)) g) (one g.scene i ws o p t u) ∙ sym also
 
 then_one : (f : Game → Game) (R : Drawn Game → Type 0) → IsOne R → IsOne (Then f R)
 then_one f R one a b (o, (r, is)) (p, (q, also)) = is ∙ ap (done f) (one o p r q) ∙ sym also
 
 touch_one_as : TurnIsOne → (o : Option ℕ) (n : Place) (d : Way) (g : Game) (ws : List ℕ) → IsOne (TouchesAs o n d g ws)
 touch_one_as one None n d g ws a b is also = is ∙ sym also
-touch_one_as one (Some i) n d g ws a b x y = then_one closed (TurnOf i (opened i g) ws) (turn_one one i (opened i g) ws) a b x y
+touch_one_as one (Some i) n d g ws a b x y = then_one closed (TurnOf VoiceOfScroll i (opened i g) ws) (turn_one one VoiceOfScroll i (opened i g) ws) a b x y
 
 touch_one : TurnIsOne → (n : Place) (d : Way) (g : Game) (ws : List ℕ) → IsOne (Touches n d g ws)
 touch_one one n d g ws a b x y = touch_one_as one (scroll_at n g.scene) n d g ws a b x y
@@ -58,7 +61,7 @@ player_one one (Goes side) bounds from g ws a b x y = go_one one _ side bounds f
 
 object_one : TurnIsOne → (o : Option ℕ) (i : ℕ) (g : Game) (ws : List ℕ) → IsOne (ObjectDoes o i g ws)
 object_one one None i g ws a b is also = is ∙ sym also
-object_one one (Some at) i g ws a b x y = then_one drifted (TurnOf i g ws) (turn_one one i g ws) a b x y
+object_one one (Some at) i g ws a b x y = then_one drifted (TurnOf VoiceOfObject i g ws) (turn_one one VoiceOfObject i g ws) a b x y
 
 tick_one : TurnIsOne → (t : Piece) (k : Asked) (i : ℕ) (s : Stat) (g : Game) (ws : List ℕ) → IsOne (TickAs t k i s g ws)
 tick_one one Player k i s g ws a b x y = player_one one k.intent k.bounds s.place g ws a b x y

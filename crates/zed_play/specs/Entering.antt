@@ -1,5 +1,5 @@
 -- Another board, where the player of a playtest comes to it.
-use Rattle.std.specs.Prelude.{ℕ, pos, zero, suc, ◌+◌, ◌/◌, ◌%◌, Bool, ◌&&◌, ◌==◌, if◌then◌else◌, List, map, slice_get, Option, Some, None}
+use Rattle.std.specs.Prelude.{ℕ, pos, zero, suc, ◌+◌, ◌/◌, ◌%◌, Bool, ◌&&◌, ◌==◌, if◌then◌else◌, List, [], map, slice_get, Option, Some, None}
 use Rattle.zed_types.specs.declared.property.Side.{Side}
 use Rattle.zed_types.specs.declared.property.Side.TheVariants.{North, South, West, East}
 use Rattle.zed_types.specs.declared.tile.Place.{Place}
@@ -126,6 +126,7 @@ scene_on b from =
       ticking = 0;
       acting = None;
       running = None;
+      scrolls = [];
     }
 
 -- the same with the keys and message lines of the player there

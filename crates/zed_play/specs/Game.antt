@@ -1,11 +1,13 @@
 -- A board in play with what a player carries, and turns of programs in it.
-use Rattle.std.specs.Prelude.{◌≡◌, ◌⊎◌, ℕ, ◌-◌, List, ◌++◌, drop, length, Option, Some, None, MatchResult, Result}
+use Rattle.std.specs.Prelude.{◌≡◌, ◌⊎◌, ℕ, ◌-◌, List, ◌++◌, drop, length, slice_get, Option, Some, None, MatchResult, Result}
 use Rattle.zed_scene.specs.declared.error.SceneError.{SceneError}
 use Rattle.zed_scene.specs.declared.error.SceneError.TheVariants.{Memory, NoWords}
 use Rattle.zed_scene.specs.Scene.{Scene}
 use Rattle.zed_oop.specs.Turn.{State, Turn}
 use Rattle.zed_scene.specs.Words.{Drawn}
 use Rattle.zed_play.specs.declared.game.Game.{Game}
+use Rattle.zed_play.specs.declared.scrolls.Voice.{Voice}
+use Rattle.zed_play.specs.Scrolls.{program_in, said}
 
 -- a game with this board
 abbrev pub with_scene : Scene → Game → Game
@@ -24,14 +26,18 @@ first_left b (Some a) = Some a
 abbrev pub leaves : ℕ → Game → Game
 leaves b g = record g { left = first_left b g.left }
 
--- after a turn: its messages are kept; none where a word of chance is lacking
-abbrev pub told : Game → Option State → Drawn Game
-told g None = None
-told g (Some t) = Some (record g { scene = t.scene; messages = kept (g.messages ++ t.lines) }, t.left)
+-- a game after what was said in a turn of who had this program before: its messages are kept, and two or more are a scroll
+abbrev pub heard : Voice → Option ℕ → Game → State → Game
+heard v before g t = record g { scene = said v before t.lines t.scene; messages = kept (g.messages ++ t.lines) }
 
--- stat i has one turn of its program
-abbrev pub TurnOf : ℕ → Game → List ℕ → Drawn Game → Type 0
-TurnOf i g ws e = (o : Option State) × (Turn g.scene i ws o × (e ≡ told g o))
+-- after a turn; none where a word of chance is lacking
+abbrev pub told : Voice → Option ℕ → Game → Option State → Drawn Game
+told v before g None = None
+told v before g (Some t) = Some (heard v before g t, t.left)
+
+-- stat i, which speaks so, has one turn of its program
+abbrev pub TurnOf : Voice → ℕ → Game → List ℕ → Drawn Game → Type 0
+TurnOf v i g ws e = (o : Option State) × (Turn g.scene i ws o × (e ≡ told v (program_in (slice_get g.scene.stats i)) g o))
 
 -- this is done after what may lack a word
 abbrev pub done : (Game → Game) → Drawn Game → Drawn Game
@@ -48,5 +54,5 @@ Answers result R g left =
     MatchResult result (λ _. R (Some (g, left))) (λ e. (e ≡ Memory) ⊎ ((e ≡ NoWords) × R None))
 
 -- stat i had a turn of its program, and left these words; or one is lacking, or memory was refused
-abbrev pub HasTurn : {X : Type 0} → Result X SceneError → ℕ → Game → List ℕ → Game → List ℕ → Type 0
-HasTurn result i g ws h left = Answers result (TurnOf i g ws) h left
+abbrev pub HasTurn : {X : Type 0} → Result X SceneError → Voice → ℕ → Game → List ℕ → Game → List ℕ → Type 0
+HasTurn result v i g ws h left = Answers result (TurnOf v i g ws) h left

@@ -3,6 +3,7 @@ pub mod Creatures
 pub mod Pushers
 pub mod Bullets
 pub mod Pieces
+pub mod Scrolls
 pub mod Game
 pub mod Touch
 pub mod Player

@@ -8,6 +8,7 @@ use Rattle.zed_scene.specs.Moving.{is_walkable}
 use Rattle.zed_scene.specs.Places.{ahead}
 use Rattle.zed_scene.specs.Words.{Drawn}
 use Rattle.zed_play.specs.declared.game.Game.{Game}
+use Rattle.zed_play.specs.declared.scrolls.Voice.TheVariants.{Object}
 use Rattle.zed_play.specs.Acts.{moves}
 use Rattle.zed_play.specs.Bullets.{told_at}
 use Rattle.zed_play.specs.Game.{Then, TurnOf, with_scene}
@@ -34,4 +35,4 @@ drifted g = with_scene (drifts (acting_stat g.scene) g.scene) g
 -- stat i: a turn, unless its program has ended
 abbrev pub ObjectDoes : Option ℕ → ℕ → Game → List ℕ → Drawn Game → Type 0
 ObjectDoes None i g ws e = e ≡ Some (drifted g, ws)
-ObjectDoes (Some position) i g ws e = Then drifted (TurnOf i g ws) e
+ObjectDoes (Some position) i g ws e = Then drifted (TurnOf Object i g ws) e

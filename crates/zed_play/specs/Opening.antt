@@ -80,6 +80,7 @@ scene_of h b =
       ticking = 0;
       acting = None;
       running = None;
+      scrolls = [];
     }
 
 -- what bounds the player on a board: its shots at a time, and the boards to its sides

@@ -1,5 +1,5 @@
 -- A step: a chain of at most 1,024 looks at stats, and what comes of it.
-use Rattle.std.specs.Prelude.{◌≡◌, ◌⊎◌, ℕ, ℤ, zero, suc, pos, ◌+◌, ◌-◌, int_lt, Bool, true, false, nat_le, nat_lt, if◌then◌else◌, List, length, slice_get, Option, Some, None, is_some, Result, Ok, Err}
+use Rattle.std.specs.Prelude.{◌≡◌, ◌⊎◌, ℕ, ℤ, zero, suc, pos, ◌+◌, ◌-◌, int_lt, Bool, true, false, nat_le, nat_lt, if◌then◌else◌, List, [], length, slice_get, Option, Some, None, is_some, Result, Ok, Err}
 use Rattle.zed_scene.specs.declared.stat.Stat.{Stat}
 use Rattle.zed_scene.specs.declared.error.SceneError.{SceneError}
 use Rattle.zed_scene.specs.declared.error.SceneError.TheVariants.{Memory, NoWords}
@@ -69,9 +69,9 @@ abbrev pub ending_by : Option ℕ → ℤ → Option Ending
 ending_by (Some board) health = Some (Left board)
 ending_by None health = died health
 
--- from the first stat on
+-- from the first stat on, before anything is said
 abbrev pub from_first : Game → Game
-from_first g = with_scene (record g.scene { ticking = 0 }) g
+from_first g = with_scene (record g.scene { ticking = 0; scrolls = [] }) g
 
 -- a playtest after a step that came to this game: a tick later, and ended if it is over
 abbrev pub closed_with : Game → Playtest → Playtest

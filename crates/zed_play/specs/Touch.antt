@@ -13,6 +13,7 @@ use Rattle.zed_scene.specs.Removing.{attack}
 use Rattle.zed_scene.specs.Words.{Drawn}
 use Rattle.zed_play.specs.declared.game.Game.{Game}
 use Rattle.zed_play.specs.declared.piece.Piece.{Piece}
+use Rattle.zed_play.specs.declared.scrolls.Voice.TheVariants.{Scroll}
 use Rattle.zed_play.specs.declared.piece.Piece.TheVariants.{Ammo as AmmoPiece, Torch, Gem, Key, Door, Passage, Energizer, Bullet, Forest, Boulder, Slider, Invisible, Bear, Object, Lion, Tiger}
 use Rattle.zed_play.specs.Bullets.{taken_away, tells}
 use Rattle.zed_play.specs.Game.{Then, TurnOf, leaves, with_scene}
@@ -111,7 +112,7 @@ closed g = with_scene (rolled (running_stat g.scene) g.scene) g
 -- a touch of a place: the scroll there, of this number, has one turn; else the piece is touched
 abbrev pub TouchesAs : Option ℕ → Place → Step → Game → List ℕ → Drawn Game → Type 0
 TouchesAs None n d g ws e = e ≡ Some (touched (piece_of (element_at g.scene n)) (tile_at g.scene.tiles n) n d g, ws)
-TouchesAs (Some i) n d g ws e = Then closed (TurnOf i (opened i g) ws) e
+TouchesAs (Some i) n d g ws e = Then closed (TurnOf Scroll i (opened i g) ws) e
 
 -- the player touches what is at a place, coming along a step
 abbrev pub Touches : Place → Step → Game → List ℕ → Drawn Game → Type 0

@@ -155,7 +155,7 @@ fn scene_on(alloc: Global, board: &BoardData, from: &Scene) -> Result<Scene, All
     let programs = programs_of(alloc, board.stats.as_slice())?;
     let flags = copy_lines(alloc, from.flags())?;
     let counters = carried(from.counters());
-    Ok(Scene::new(board.tiles, stats, programs, counters, flags))
+    Ok(Scene::new(alloc, board.tiles, stats, programs, counters, flags))
 }
 
 impl Game {

@@ -3,6 +3,7 @@ ghost use Rattle.std.specs.Prelude.{◌≡◌, IfOk, OnOk};
 ghost use Rattle.zed_play.specs.Game.{HasTurn, leaves};
 
 use crate::messages::Messages;
+use crate::scrolls::{Voice, program_in, say};
 use std::alloc::{AllocError, Global};
 use zed_oop::{Scene, SceneError, Words, have_turn};
 use zed_types::{Bytes, Seq};
@@ -68,13 +69,16 @@ impl Game {
     pub(crate) fn have_turn(
         &mut self,
         alloc: Global,
+        voice: Voice,
         i: usize,
         words: &mut Words,
     ) -> Result<(), SceneError>
-        ensures { HasTurn result i self.old words.old self.new words.new }
+        ensures { HasTurn result voice i self.old words.old self.new words.new }
     {
+        let before = program_in(&self.scene, i);
         let lines = have_turn(alloc, &mut self.scene, i, words)?;
         self.messages.push_all(lines.as_slice())?;
+        say(alloc, &mut self.scene, voice, before, lines)?;
         Ok(())
     }
 }

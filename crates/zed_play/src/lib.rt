@@ -19,6 +19,7 @@ mod play;
 mod player;
 mod pushers;
 mod readers;
+mod scrolls;
 mod ticking;
 mod touching;
 
@@ -34,3 +35,5 @@ pub use messages::Messages;
 pub use piece::Piece;
 pub use play::Play;
 pub use readers::Carried;
+pub use scrolls::Voice;
+pub use zed_oop::{Chosen, Scroll};

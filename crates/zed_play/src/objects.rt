@@ -7,6 +7,7 @@ ghost use Rattle.zed_play.specs.Objects.{ObjectDoes, bumps, drifted, thuds};
 use crate::acts::moves;
 use crate::bullets::OBJECT;
 use crate::game::Game;
+use crate::scrolls::Voice;
 use std::alloc::Global;
 use zed_oop::{Scene, SceneError, Step, Words, ahead, is_walkable, send_alone};
 use zed_types::Place;
@@ -70,7 +71,7 @@ impl Game {
                 Ok(())
             }
             Some(_) => {
-                self.have_turn(alloc, i, words)?;
+                self.have_turn(alloc, Voice::Object, i, words)?;
                 self.drift();
                 Ok(())
             }

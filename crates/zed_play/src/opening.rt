@@ -120,7 +120,14 @@ fn scene_of(alloc: Global, header: &Header, board: &BoardData) -> Result<Scene, 
     let stats = stats_of(alloc, board.stats.as_slice())?;
     let programs = programs_of(alloc, board.stats.as_slice())?;
     let flags = copy_lines(alloc, header.flags.as_slice())?;
-    Ok(Scene::new(board.tiles, stats, programs, counters_in(header), flags))
+    Ok(Scene::new(
+        alloc,
+        board.tiles,
+        stats,
+        programs,
+        counters_in(header),
+        flags,
+    ))
 }
 
 pub(crate) fn bounds_of(properties: &Properties) -> Bounds

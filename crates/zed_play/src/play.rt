@@ -54,6 +54,7 @@ fn step_on(
 {
     game.copy_from(alloc, before)?;
     game.scene.set_ticking(0);
+    game.scene.close_scrolls(alloc);
     game.look_on(alloc, asked, words)
 }
 

@@ -6,6 +6,7 @@ ghost use Rattle.zed_play.specs.Touch.{Touches, closed, door_opened, key_found, 
 use crate::bullets::{take_away, tell};
 use crate::game::Game;
 use crate::piece::{Piece, piece_of};
+use crate::scrolls::Voice;
 use std::alloc::Global;
 use zed_oop::{Counter, Scene, SceneError, Step, Words, give};
 use zed_types::{Place, Tile};
@@ -149,7 +150,7 @@ impl Game {
         match scroll_at(&self.scene, place) {
             Some(i) => {
                 self.open(i);
-                self.have_turn(alloc, i, words)?;
+                self.have_turn(alloc, Voice::Scroll, i, words)?;
                 self.close();
                 Ok(())
             }

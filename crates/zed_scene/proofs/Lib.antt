@@ -1,3 +1,4 @@
 pub mod Pushing
 pub mod Reach
 pub mod FlagLemmas
+pub mod Following

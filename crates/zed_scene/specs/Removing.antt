@@ -1,8 +1,9 @@
 -- How stats are taken away and damaged.
-use Rattle.std.specs.Prelude.{int_lt, ℕ, ℤ, pos, ◌-ℤ◌, ◌-◌, ◌==◌, nat_lt, nat_le, if◌then◌else◌, remove, map, slice_get, Option, Some, None}
+use Rattle.std.specs.Prelude.{◌≡◌, ◌≢◌, int_lt, ℕ, ℤ, pos, ◌-ℤ◌, ◌-◌, ◌==◌, nat_lt, nat_le, if◌then◌else◌, remove, map, slice_get, Option, Some, None}
 use Rattle.zed_types.specs.declared.tile.Place.{Place}
+use Rattle.zed_scene.specs.declared.scroll.Scroll.{Scroll}
 use Rattle.zed_scene.specs.declared.stat.Stat.{Stat}
-use Rattle.zed_scene.specs.Scene.{Scene, empty_tile, put, stat_at}
+use Rattle.zed_scene.specs.Scene.{Scene, empty_tile, put, stat_at, stat_of}
 
 -- the number of a stat after stat i is removed; none where it is that one
 abbrev pub after_removal : ℕ → ℕ → Option ℕ
@@ -17,6 +18,10 @@ one_less i (Some n) = after_removal i n
 abbrev pub renumbered : ℕ → Stat → Stat
 renumbered i a = record a { follower = one_less i a.follower; leader = one_less i a.leader }
 
+-- a scroll after stat i is removed: its speaker goes by its new number, and is none where it is that one
+abbrev pub followed : ℕ → Scroll → Scroll
+followed i r = record r { speaker = one_less i r.speaker }
+
 -- without stat i: the later ones move down by one, and so do the numbers that name them
 abbrev pub without : ℕ → Scene → Scene
 without i s =
@@ -25,6 +30,7 @@ without i s =
       ticking = if nat_le i s.ticking then s.ticking - 1 else s.ticking;
       acting = one_less i s.acting;
       running = one_less i s.running;
+      scrolls = map (followed i) s.scrolls;
     }
 
 -- what was underneath a stat that is gone stands at its place
@@ -35,6 +41,12 @@ gone_from i (Some gone) s = put gone.place gone.under (without i s)
 -- stat i is taken away; the player stays
 abbrev pub remove_stat : ℕ → Scene → Scene
 remove_stat i s = if i == 0 then s else gone_from i (slice_get s.stats i) s
+
+-- the number of a stat names the same one after another is removed
+abbrev pub OthersAreFollowed : Type 0
+OthersAreFollowed =
+    (s : Scene) (i n : ℕ) (gone a : Stat) → i ≢ 0 → slice_get s.stats i ≡ Some gone → slice_get s.stats n ≡ Some a → n ≢ i →
+    stat_of (remove_stat i s) (one_less i (Some n)) ≡ Some (renumbered i a)
 
 -- a board in play where the player has this health
 abbrev pub with_health : ℤ → Scene → Scene

@@ -1,9 +1,10 @@
 -- A board in play: what stands where.
-use Rattle.std.specs.Prelude.{ℕ, Bool, ◌&&◌, nat_lt, ◌==◌, if◌then◌else◌, List, [], length, position, slice_index_or, slice_set, slice_get, Option, Some, None}
+use Rattle.std.specs.Prelude.{ℕ, Bool, ◌&&◌, nat_lt, ◌==◌, if◌then◌else◌, List, [], ◌∷◌, ◌++◌, length, position, slice_index_or, slice_set, slice_get, Option, Some, None}
 use Rattle.zed_types.specs.declared.tile.Place.{Place}
 use Rattle.zed_types.specs.declared.tile.Tile.{Tile}
 use Rattle.zed_types.specs.Table.{index_of}
 use Rattle.zed_scene.specs.declared.counters.Counters.{Counters}
+use Rattle.zed_scene.specs.declared.scroll.Scroll.{Scroll}
 use Rattle.zed_scene.specs.declared.stat.Stat.{Stat}
 use Rattle.zed_scene.specs.Places.{is_on_board}
 
@@ -21,6 +22,8 @@ pub record Scene : Type 0 where
   pub acting : Option ℕ
   -- the stat whose program has its turn, none once it is gone
   pub running : Option ℕ
+  -- what was said in the turns of a step, in order
+  pub scrolls : List Scroll
 
 -- what stands outside of the table
 abbrev pub edge : Tile
@@ -112,6 +115,11 @@ program_of s (Some k) = or_empty (slice_get s.programs k)
 -- program k gets these bytes, for all the stats that share it
 abbrev pub put_program : ℕ → List ℕ → Scene → Scene
 put_program k p s = record s { programs = slice_set s.programs k p }
+
+-- one scroll more, of the stat whose program has its turn
+abbrev pub with_scroll : List ℕ → List (List ℕ) → Scene → Scene
+with_scroll title lines s =
+    record s { scrolls = s.scrolls ++ record { speaker = s.running; title = title; lines = lines } ∷ [] }
 
 -- the number of a stat, if it is there
 abbrev pub there : Scene → ℕ → Option ℕ

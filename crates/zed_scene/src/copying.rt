@@ -2,6 +2,7 @@
 ghost use Rattle.std.specs.Prelude.{◌≡◌, ◌≢◌, IfOk, OnOk, OnErr, length};
 
 use crate::scene::Scene;
+use crate::scroll::Scroll;
 use crate::stat::Stat;
 use std::alloc::{AllocError, Global};
 use zed_types::{Bytes, Seq};
@@ -77,6 +78,74 @@ fn copy_all_onto(alloc: Global, into: &mut Seq<Bytes>, strings: &[Bytes]) -> Res
     }
 }
 
+fn copy_scroll(alloc: Global, scroll: &Scroll) -> Result<Scroll, AllocError>
+    ensures { IfOk result (λ c. c ≡ scroll.now) }
+{
+    let title = scroll.title.copy()?;
+    let lines = copy_all(alloc, scroll.lines.as_slice())?;
+    Ok(Scroll {
+        speaker: scroll.speaker,
+        title,
+        lines,
+    })
+}
+
+fn copy_scrolls(alloc: Global, scrolls: &[Scroll]) -> Result<Seq<Scroll>, AllocError>
+    ensures { IfOk result (λ c. c ≡ scrolls.now) }
+{
+    let mut out = Seq::new(alloc);
+    for scroll in scrolls {
+        out.push(copy_scroll(alloc, scroll)?)?;
+    }
+    Ok(out)
+}
+
+/// Makes one scroll equal to another, which takes memory only if they differ.
+fn copy_scroll_onto(alloc: Global, into: &mut Scroll, scroll: &Scroll) -> Result<(), AllocError>
+    ensures result { OnOk result (into.new ≡ scroll.now) }
+    ensures memory_only_when { OnErr result (into.old ≢ scroll.now) }
+{
+    copy_one_onto(&mut into.title, &scroll.title)?;
+    copy_all_onto(alloc, &mut into.lines, scroll.lines.as_slice())?;
+    into.speaker = scroll.speaker;
+    Ok(())
+}
+
+/// Makes scrolls equal to as many others, one by one.
+fn copy_each_scroll_onto(
+    alloc: Global,
+    into: &mut [Scroll],
+    scrolls: &[Scroll],
+) -> Result<(), AllocError>
+    requires { length into.old ≡ length scrolls.now }
+    ensures result { OnOk result (into.new ≡ scrolls.now) }
+    ensures memory_only_when { OnErr result (into.old ≢ scrolls.now) }
+{
+    let mut i = 0;
+    while i < scrolls.len() {
+        copy_scroll_onto(alloc, &mut into[i], &scrolls[i])?;
+        i += 1;
+    }
+    Ok(())
+}
+
+/// Makes a list of scrolls equal to another, which takes memory only if they differ.
+fn copy_scrolls_onto(
+    alloc: Global,
+    into: &mut Seq<Scroll>,
+    scrolls: &[Scroll],
+) -> Result<(), AllocError>
+    ensures result { OnOk result (into.new ≡ scrolls.now) }
+    ensures memory_only_when { OnErr result (into.old ≢ scrolls.now) }
+{
+    if into.as_slice().len() == scrolls.len() {
+        copy_each_scroll_onto(alloc, into.as_mut_slice(), scrolls)
+    } else {
+        *into = copy_scrolls(alloc, scrolls)?;
+        Ok(())
+    }
+}
+
 impl Scene {
     /// Becomes equal to another board. If both have as many stats and flags, this takes memory only
     /// for strings that differ. So it costs little if the other board was made from this one, and
@@ -88,6 +157,7 @@ impl Scene {
         copy_stats_onto(alloc, &mut self.stats, other.stats.as_slice())?;
         copy_all_onto(alloc, &mut self.programs, other.programs.as_slice())?;
         copy_all_onto(alloc, &mut self.flags, other.flags.as_slice())?;
+        copy_scrolls_onto(alloc, &mut self.scrolls, other.scrolls.as_slice())?;
         self.tiles = other.tiles;
         self.counters = other.counters;
         self.ticking = other.ticking;
@@ -103,6 +173,7 @@ impl Scene {
         let stats = copy_stats(alloc, self.stats.as_slice())?;
         let programs = copy_all(alloc, self.programs.as_slice())?;
         let flags = copy_all(alloc, self.flags.as_slice())?;
+        let scrolls = copy_scrolls(alloc, self.scrolls.as_slice())?;
         Ok(Scene {
             tiles: self.tiles,
             stats,
@@ -112,6 +183,7 @@ impl Scene {
             ticking: self.ticking,
             acting: self.acting,
             running: self.running,
+            scrolls,
         })
     }
 }

@@ -1,8 +1,9 @@
 //! Stats that are taken away, and the numbers that others have then.
 ghost use Rattle.std.specs.Prelude.{◌≡◌, map};
-ghost use Rattle.zed_scene.specs.Removing.{after_removal, attack, damage, damage_stat, hurt, remove_stat, renumbered, one_less};
+ghost use Rattle.zed_scene.specs.Removing.{after_removal, attack, damage, damage_stat, followed, hurt, remove_stat, renumbered, one_less};
 
 use crate::scene::Scene;
+use crate::scroll::Scroll;
 use crate::stat::Stat;
 use zed_types::{Place, Tile};
 
@@ -44,6 +45,21 @@ fn renumber(stats: &mut [Stat], i: usize)
     }
 }
 
+fn follow_one(scroll: &mut Scroll, i: usize)
+    ensures { scroll.new ≡ followed i scroll.old }
+{
+    scroll.speaker = named_after_removal(i, scroll.speaker);
+}
+
+/// Gives each scroll the number that its speaker has after a stat is removed.
+fn follow(scrolls: &mut [Scroll], i: usize)
+    ensures { scrolls.new ≡ map (followed i) scrolls.old }
+{
+    for scroll in scrolls.iter_mut() {
+        follow_one(scroll, i);
+    }
+}
+
 impl Scene {
     /// Takes a stat away, unless it is the player. What was underneath comes to its place, and the
     /// later stats move down by one.
@@ -56,6 +72,7 @@ impl Scene {
         if let Some(gone) = self.stat(i) {
             self.stats.remove(i);
             renumber(self.stats.as_mut_slice(), i);
+            follow(self.scrolls.as_mut_slice(), i);
             self.put(gone.place, gone.under);
             if i <= self.ticking {
                 self.ticking -= 1;

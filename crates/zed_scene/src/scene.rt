@@ -3,8 +3,10 @@ ghost use Rattle.std.specs.Prelude.{◌≡◌, [], ◌<◌, length, slice_get, o
 ghost use Rattle.zed_scene.specs.Scene.{acting_stat, element_ahead, program_of, put, put_acting_stat, put_program, put_running_stat, put_stat, running_stat, stat_at, there, tile_at, with_tile};
 
 use crate::counters::Counters;
+use crate::scroll::Scroll;
 use crate::stat::Stat;
 use crate::step::is_on_board;
+use std::alloc::Global;
 use std::marker::Model;
 use zed_types::{Bytes, COLUMNS, Place, Seq, TILES, Tile};
 
@@ -19,6 +21,7 @@ pub struct Scene {
     pub(crate) ticking: usize,
     pub(crate) acting: Option<usize>,
     pub(crate) running: Option<usize>,
+    pub(crate) scrolls: Seq<Scroll>,
 }
 
 impl Model for Scene {
@@ -27,7 +30,7 @@ impl Model for Scene {
 
     ghost Value = { Plain };
 
-    ghost view = { λ s. record { tiles = s.tiles; stats = s.stats; programs = s.programs; counters = s.counters; flags = s.flags; ticking = s.ticking; acting = s.acting; running = s.running } };
+    ghost view = { λ s. record { tiles = s.tiles; stats = s.stats; programs = s.programs; counters = s.counters; flags = s.flags; ticking = s.ticking; acting = s.acting; running = s.running; scrolls = s.scrolls } };
 
     ghost invariant = { λ s. length s.flags ≡ 10 };
 }
@@ -69,8 +72,9 @@ fn lowest_at(stats: &[Stat], place: Place) -> Option<usize>
 }
 
 impl Scene {
-    /// A board on which no stat acts yet. There are ten flags, of at most 20 bytes each; stats name their programs by number.
+    /// A board on which no stat acts yet, and nothing was said. There are ten flags, of at most 20 bytes each; stats name their programs by number.
     pub fn new(
+        alloc: Global,
         tiles: [Tile; TILES],
         stats: Seq<Stat>,
         programs: Seq<Bytes>,
@@ -78,7 +82,7 @@ impl Scene {
         flags: Seq<Bytes>,
     ) -> Scene
         requires { length flags ≡ 10 }
-        ensures result { result ≡ record { tiles = tiles; stats = stats; programs = programs; counters = counters; flags = flags; ticking = 0; acting = None; running = None } }
+        ensures result { result ≡ record { tiles = tiles; stats = stats; programs = programs; counters = counters; flags = flags; ticking = 0; acting = None; running = None; scrolls = [] } }
     {
         Scene {
             tiles,
@@ -89,6 +93,7 @@ impl Scene {
             ticking: 0,
             acting: None,
             running: None,
+            scrolls: Seq::new(alloc),
         }
     }
 

@@ -6,3 +6,4 @@ pub mod Command
 pub mod Line
 pub mod Label
 pub mod Verbs
+pub mod Scroll

@@ -73,7 +73,7 @@ fn begun_by(byte: Option<u8>) -> LineKind
 }
 
 /// What the byte at a place begins.
-fn begun_at(program: &[u8], at: usize) -> LineKind
+pub fn begun_at(program: &[u8], at: usize) -> LineKind
     ensures { result ≡ begun_at program.now at }
 {
     begun_by(program.get(at).copied())
@@ -81,7 +81,7 @@ fn begun_at(program: &[u8], at: usize) -> LineKind
 
 #[tactic(auto, unfolding(crate::specs::Line::line_text))]
 /// The line at a place, without its end.
-fn line_text(program: &[u8], at: usize) -> &[u8]
+pub fn line_text(program: &[u8], at: usize) -> &[u8]
     ensures { result.now ≡ line_text program.now at }
 {
     part(program, at, line_end(program, at))

@@ -81,7 +81,7 @@ fn end_of_word(program: &[u8], from: usize) -> usize
 }
 
 /// Bytes in upper case.
-pub(crate) fn upper(alloc: Global, bytes: &[u8]) -> Result<Bytes, AllocError>
+pub fn upper(alloc: Global, bytes: &[u8]) -> Result<Bytes, AllocError>
     ensures result { IfOk result (λ b. b ≡ upper bytes.now) }
     ensures memory_only_when { OnErr result (0 < length bytes.now) }
 {

@@ -7,6 +7,8 @@ mod ReadBack
 mod Room
 mod Rows
 mod Sizes
+mod Spelling
+mod Stepping
 mod Staying
 mod Supply
 mod Turning

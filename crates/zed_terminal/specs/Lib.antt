@@ -2,6 +2,7 @@ pub mod Again
 pub mod Course
 pub mod Devices
 pub mod Errors
+pub mod Overlaid
 pub mod Performing
 pub mod Record
 pub mod Report

@@ -3,16 +3,16 @@ use Rattle.std.specs.Prelude.{◌≡◌, ◌⊎◌, ℕ, Bool, true, false, List
 use Rattle.zed_world.specs.Contents.{Contents}
 use Rattle.zed_play.specs.Playtest.{Playtest}
 use Rattle.zed_terminal.specs.declared.input.Size.{Size}
-use Rattle.zed_terminal.specs.Staged.{stage_text}
+use Rattle.zed_terminal.specs.Overlaid.{closed}
 use Rattle.zed_terminal.specs.declared.error.TurnError.{TurnError}
 use Rattle.zed_terminal.specs.declared.error.TurnError.TheVariants.{Memory, ScreenFault}
 use Rattle.zed_terminal.specs.Again.{Comes}
-use Rattle.zed_terminal.specs.Course.{PlaysOn, Point, course}
+use Rattle.zed_terminal.specs.Course.{PlaysOn, Point, course, picture}
 use Rattle.zed_terminal.specs.Stage.{Draws, Stage, stage}
 
 -- a playtest before its first step, with words of chance that came already, on a terminal of this size
 abbrev pub at_start : Size → Playtest → List ℕ → Point
-at_start size p words = record { play = p; keys = []; words = words; left = words; size = size }
+at_start size p words = record { play = p; overlay = closed; keys = []; words = words; left = words; size = size }
 
 -- where it was played to
 abbrev pub played_to : Result ⊤ TurnError → Point → Result Point TurnError
@@ -27,10 +27,10 @@ with_drawn drawn terminal s = stage drawn terminal s.inputs s.source s.chance
 abbrev pub Performs : Option Contents → Point → Stage → Stage → Result Point TurnError → Type 0
 Performs w first old new r =
     ((drawn : Option (List (List ℕ))) × (terminal : Option (List Bool)) × (last : Point) × (told : Result ⊤ TurnError)
-    × Draws false (stage_text first.size first.play) old.drawn old.terminal drawn terminal
+    × Draws false (picture first) old.drawn old.terminal drawn terminal
     × PlaysOn w (course first (with_drawn drawn terminal old)) (course last new) told × (r ≡ played_to told last))
     ⊎ ((r ≡ Err ScreenFault) × ((drawn : Option (List (List ℕ))) × (terminal : Option (List Bool))
-    × Draws true (stage_text first.size first.play) old.drawn old.terminal drawn terminal × (new ≡ with_drawn drawn terminal old)))
+    × Draws true (picture first) old.drawn old.terminal drawn terminal × (new ≡ with_drawn drawn terminal old)))
     ⊎ ((r ≡ Err Memory) × (new ≡ old))
 
 -- where a playtest was played to its end, the keys and words that are kept come to it again

@@ -1,8 +1,8 @@
 -- What the devices of a playtest tell.
 use Rattle.std.specs.Prelude.{◌≡◌, ℕ, Bool, true, false, List, ◌++◌, map, Option, option_map}
-use Rattle.zed_play.specs.declared.key.Key.{Key}
 use Rattle.zed_terminal.specs.declared.input.Input.{Input}
-use Rattle.zed_terminal.specs.declared.input.Input.TheVariants.{Pressed}
+use Rattle.zed_terminal.specs.declared.input.Input.TheVariants.{Kept}
+use Rattle.zed_terminal.specs.declared.moves.Move.{Move}
 use Rattle.zed_terminal.specs.Terminals.{Foretold, Takes}
 use Rattle.zed_terminal.specs.Devices.{Chances, drawing}
 
@@ -19,9 +19,9 @@ pub record Stage : Type 0 where
 abbrev pub stage : Option (List (List ℕ)) → Option (List Bool) → Option (List Input) → Option (List Bool) → Chances → Stage
 stage drawn terminal inputs source chance = record { drawn = drawn; terminal = terminal; inputs = inputs; source = source; chance = chance }
 
--- keys that come before what a source has
-abbrev pub behind_keys : List Key → Option (List Input) → Option (List Input)
-behind_keys keys = option_map (λ later. map (λ key. Pressed key) keys ++ later)
+-- what a source has, behind moves that were kept
+abbrev pub behind_kept : List Move → Option (List Input) → Option (List Input)
+behind_kept moves = option_map (λ later. map (λ made. Kept made) moves ++ later)
 
 -- the next of what is typed is asked for, and this or nothing comes
 abbrev pub TakesInput : Option Input → Stage → Stage → Type 0

@@ -2,12 +2,18 @@
 use Rattle.std.specs.Prelude.{ℕ, ◌+◌, ◌-◌, ◌*◌, ◌/◌, ◌==◌, nat_le, if◌then◌else◌, List, [], ◌∷◌, ◌++◌, codes, Option, Some, None, drop, length, map, slice_get, take}
 use Rattle.std.specs.List.{flat_map, range_with_len}
 use Rattle.zed_types.specs.declared.tile.Place.{Place}
+use Rattle.zed_scene.specs.declared.scroll.Scroll.{Scroll}
 use Rattle.zed_scene.specs.declared.stat.Stat.{Stat}
+use Rattle.zed_oop.specs.declared.choosing.Chosen.{Chosen}
+use Rattle.zed_oop.specs.declared.choosing.Chosen.TheVariants.{Sent, NoLabel, Gone, NoFile, NoChoice}
 use Rattle.zed_play.specs.Playtest.{Playtest}
 use Rattle.zed_screen.specs.declared.frame.Cell.{Cell}
 use Rattle.zed_screen.specs.Panel.{play_cell}
 use Rattle.zed_look.specs.declared.look.Spot.{Spot}
+use Rattle.zed_scroll.specs.Text.{scroll_text}
 use Rattle.zed_terminal.specs.declared.input.Size.{Size}
+use Rattle.zed_terminal.specs.declared.overlay.Shown.{Shown}
+use Rattle.zed_terminal.specs.Overlaid.{scrolls_of}
 use Rattle.zed_look.specs.Coloured.{coloured_row}
 use Rattle.zed_look.specs.Drawing.{played_at, row_of}
 use Rattle.zed_look.specs.Glyphs.{glyph}
@@ -81,14 +87,50 @@ message_line columns message = flat_map glyph (take columns message) ++ line_end
 abbrev pub last_of : ℕ → List (List ℕ) → List (List ℕ)
 last_of n lines = drop (length lines - n) lines
 
--- how keys are typed, as much as fits a line; and what clears all behind it
-unfoldable pub help : ℕ → List ℕ
-help columns = take columns (codes "arrows move, shift or w a s d shoot, space waits, q ends") ++ 27 ∷ codes "[J"
+-- what is told of a choice, if anything is
+abbrev pub answer_to : Chosen → Option (List ℕ)
+answer_to Sent = None
+answer_to NoLabel = Some (codes "no program that this reaches has its label")
+answer_to Gone = Some (codes "the one who said this is gone")
+answer_to NoFile = Some (codes "this leads to a file, and there is none")
+answer_to NoChoice = Some (codes "there is no such choice")
+
+abbrev pub told : Option Chosen → Option (List ℕ)
+told None = None
+told (Some chosen) = answer_to chosen
+
+-- a line more, if there is one
+abbrev pub and_told : Option (List ℕ) → List (List ℕ) → List (List ℕ)
+and_told None lines = lines
+and_told (Some line) lines = lines ++ line ∷ []
+
+-- the last n of the messages and of what is told of a choice behind them
+abbrev pub told_lines : ℕ → ℕ → List (List ℕ) → Option Chosen → List ℕ
+told_lines columns n messages said = flat_map (message_line columns) (last_of n (and_told (told said) messages))
+
+-- how keys are typed where a scroll is open, or none is
+abbrev pub keys_told : Option Shown → List ℕ
+keys_told None = codes "arrows move, shift or w a s d shoot, space waits, q ends"
+keys_told (Some s) = codes "arrows move, Enter chooses, Escape closes, q ends"
+
+-- as much of that as fits a line; and what clears all behind it
+unfoldable pub help : Option Shown → ℕ → List ℕ
+help shown columns = take columns (keys_told shown) ++ 27 ∷ codes "[J"
 
 -- to the upper left place, what a terminal of a size shows of a playtest: the rows and columns around the player, as many of the last message lines
 -- as there is room for, and how keys are typed
-unfoldable pub stage_text : Size → Playtest → List ℕ
-stage_text size p =
+unfoldable pub stage_text : Size → Option Shown → Option Chosen → Playtest → List ℕ
+stage_text size shown said p =
     let columns = columns_of size.columns in
     27 ∷ codes "[H" ++ stage_rows columns (first_column size p) (first_row size p) (rows_shown size.rows) p
-    ++ flat_map (message_line columns) (last_of (size.rows - 1 - rows_shown size.rows) p.game.messages) ++ help columns
+    ++ told_lines columns (size.rows - 1 - rows_shown size.rows) p.game.messages said ++ help shown columns
+
+-- a scroll with this of its lines in the middle, if it is there
+abbrev pub shown_text : Size → Option Scroll → ℕ → List ℕ
+shown_text size None line = []
+shown_text size (Some scroll) line = scroll_text size.rows (columns_of size.columns) scroll line
+
+-- the scroll that is open, over that
+abbrev pub open_text : Size → Option Shown → Playtest → List ℕ
+open_text size None p = []
+open_text size (Some s) p = shown_text size (slice_get (scrolls_of p) s.scroll) s.line

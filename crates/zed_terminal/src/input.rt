@@ -3,6 +3,7 @@ ghost use Rattle.std.specs.Prelude.{◌≡◌, ℕ, Bool, List, Option, IfOk, On
 ghost use Rattle.zed_host.specs.Counting.{Counts};
 ghost use Rattle.zed_terminal.specs.Terminals.{Foretold, Takes};
 
+use crate::moves::Move;
 use zed_play::Key;
 
 /// What a device answers that failed.
@@ -17,13 +18,28 @@ pub struct Size {
     pub columns: u16,
 }
 
+/// Which way a page of a scroll is turned.
+#[derive(Clone, Copy, PartialEq, Eq)]
+pub enum Page {
+    Up,
+    Down,
+}
+
 /// What one does who plays at a terminal.
 #[derive(Clone, Copy, PartialEq, Eq)]
 pub enum Input {
     /// Presses a key.
     Pressed(Key),
+    /// Turns a page.
+    Paged(Page),
+    /// Presses Enter.
+    Entered,
+    /// Presses Escape.
+    Escaped,
     /// Gives the terminal another size.
     Resized(Size),
+    /// Has done this in a playtest that was kept, and does it again.
+    Kept(Move),
 }
 
 /// A source of what is done, one thing after the other.

@@ -1,10 +1,10 @@
 //! Laws of playtests that are kept.
 ghost use Rattle.zed_terminal.specs.Again.{PlaysAgain};
 ghost use Rattle.zed_terminal.specs.Performing.{PerformancesComeAgain};
-ghost use Rattle.zed_terminal.specs.Record.{KeysAreReadBack, WordsAreReadBack};
+ghost use Rattle.zed_terminal.specs.Record.{MovesAreReadBack, WordsAreReadBack};
 ghost use Rattle.zed_terminal.specs.Staying.{SameUntilLeft};
 
-/// What was played comes again of the keys and words that were kept.
+/// What was played comes again of the moves and words that were kept.
 pub fn plays_again()
     ensures result { PlaysAgain }
 {}
@@ -15,9 +15,9 @@ pub fn performances_come_again()
     ensures result { PerformancesComeAgain }
 {}
 
-/// Keys and words are read back from the files that they are kept in.
+/// Moves and words are read back from the files that they are kept in.
 pub fn record_is_read_back()
-    ensures keys { KeysAreReadBack }
+    ensures moves { MovesAreReadBack }
     ensures words { WordsAreReadBack }
 {}
 

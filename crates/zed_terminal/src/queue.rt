@@ -1,17 +1,16 @@
-//! Keys that come before those of a source.
+//! What was kept of a playtest, which comes before what is typed.
 ghost use Rattle.std.specs.Prelude.{◌≡◌, [], IfOk, None, OnErr, drop, is_err};
 ghost use Rattle.zed_host.specs.Counting.{Counts};
 ghost use Rattle.zed_terminal.specs.Terminals.{Takes};
-ghost use Rattle.zed_terminal.specs.Stage.{behind_keys};
+ghost use Rattle.zed_terminal.specs.Stage.{behind_kept};
 
-use crate::{DeviceFailed, Input, Inputs};
+use crate::{DeviceFailed, Input, Inputs, Move};
 use std::alloc::Global;
-use zed_play::Key;
 
-/// Keys that were kept, and then what comes of a source.
+/// Moves that were kept, and then what comes of a source.
 #[derive(Drop)]
 pub struct Queue<I> {
-    pub kept: Vec<Key>,
+    pub kept: Vec<Move>,
     /// How many of them were taken.
     pub taken: usize,
     pub source: I,
@@ -32,7 +31,7 @@ impl<I> Queue<I> {
     }
 
     /// Those that are still to come before the source's.
-    pub fn rest(&self) -> &[Key]
+    pub fn rest(&self) -> &[Move]
         ensures { result.now ≡ drop self.now.taken self.now.kept.items }
     {
         if self.taken <= self.kept.len() {
@@ -43,7 +42,7 @@ impl<I> Queue<I> {
     }
 
     /// These come next, in place of those that were to come before the source's.
-    pub fn fill(&mut self, kept: Vec<Key>)
+    pub fn fill(&mut self, kept: Vec<Move>)
         ensures kept { self.new.kept ≡ kept }
         ensures taken { self.new.taken ≡ 0 }
         ensures source { self.new.source ≡ self.old.source }
@@ -54,19 +53,19 @@ impl<I> Queue<I> {
 }
 
 impl<I: Inputs> Queue<I> {
-    /// Takes the next key that was kept; or else asks the source.
+    /// Takes the next move that was kept; or else asks the source.
     fn take(&mut self) -> Result<Option<Input>, DeviceFailed>
         ensures ok { IfOk result (λ input. Takes input
-            (behind_keys (drop self.old.taken self.old.kept.items) (I.left self.old.source))
-            (behind_keys (drop self.new.taken self.new.kept.items) (I.left self.new.source))) }
+            (behind_kept (drop self.old.taken self.old.kept.items) (I.left self.old.source))
+            (behind_kept (drop self.new.taken self.new.kept.items) (I.left self.new.source))) }
         ensures err { OnErr result ((I.left self.new.source ≡ I.left self.old.source)
             × (self.new.taken ≡ self.old.taken) × (self.new.kept ≡ self.old.kept)) }
         ensures failures { Counts (is_err result)
             (I.input_failures self.old.source) (I.input_failures self.new.source) }
     {
-        if let Some(key) = self.kept.get(self.taken) {
+        if let Some(kept) = self.kept.get(self.taken) {
             self.taken += 1;
-            return Ok(Some(Input::Pressed(*key)));
+            return Ok(Some(Input::Kept(*kept)));
         }
         let typed = self.source.next()?;
         Ok(typed)
@@ -74,7 +73,7 @@ impl<I: Inputs> Queue<I> {
 }
 
 impl<I: Inputs> Inputs for Queue<I> {
-    ghost left = { λ q. behind_keys (drop q.taken q.kept.items) (I.left q.source) };
+    ghost left = { λ q. behind_kept (drop q.taken q.kept.items) (I.left q.source) };
 
     ghost input_failures = { λ q. I.input_failures q.source };
 

@@ -1,14 +1,18 @@
 //! What a terminal is told of a playtest.
-ghost use Rattle.std.specs.Prelude.{◌≡◌, ◌+◌, ◌*◌, ◌++◌, ◌<◌, ◌≤◌, IfOk, None, OnOk, Some, length, slice_get, take, drop};
+ghost use Rattle.std.specs.Prelude.{◌≡◌, ◌+◌, ◌*◌, ◌++◌, ◌<◌, ◌≤◌, IfOk, None, OnOk, Some, length, option_map, slice_get, take, drop};
 ghost use Rattle.std.specs.List.{flat_map};
 ghost use Rattle.zed_look.specs.Coloured.{coloured_row};
-ghost use Rattle.zed_terminal.specs.Staged.{beside, columns_of, columns_shown, first_shown, help, last_of, line_end, message_line, player_column, player_row, rows_shown, spot_beside, stage_row, stage_rows, stage_text};
+ghost use Rattle.zed_terminal.specs.Course.{picture, point};
+ghost use Rattle.zed_terminal.specs.Staged.{answer_to, beside, columns_of, columns_shown, first_shown, help, keys_told, last_of, line_end, message_line, open_text, player_column, player_row, rows_shown, spot_beside, stage_row, stage_rows, stage_text, told, told_lines};
 
 use crate::input::Size;
+use crate::overlay::Shown;
+use crate::tape::Tape;
 use std::alloc::{AllocError, Global};
 use zed_look::{Spot, draw_play_row, put_coloured_row, put_glyphs};
-use zed_play::{Messages, Play};
+use zed_play::{Chosen, Messages, Play};
 use zed_screen::play_cell;
+use zed_scroll::put_scroll;
 
 /// Which part of the picture is shown: from a row and a column on, so many columns.
 #[derive(Clone, Copy)]
@@ -211,23 +215,78 @@ fn put_messages(
     Ok(())
 }
 
-#[tactic(auto, unfolding(crate::specs::Staged::help))]
-fn put_help(out: &mut Vec<u8>, columns: usize) -> Result<(), AllocError>
-    ensures { OnOk result (out.new.items ≡ out.old.items ++ help columns) }
+/// What is told of a choice, if anything is.
+fn answer_to(chosen: Chosen) -> Option<&'static [u8]>
+    ensures { option_map (λ text. text.now) result ≡ answer_to chosen }
 {
-    out.extend_from_slice(front_of(
-        b"arrows move, shift or w a s d shoot, space waits, q ends",
-        columns,
-    ))?;
+    match chosen {
+        Chosen::Sent => None,
+        Chosen::NoLabel => Some(b"no program that this reaches has its label"),
+        Chosen::Gone => Some(b"the one who said this is gone"),
+        Chosen::NoFile => Some(b"this leads to a file, and there is none"),
+        Chosen::NoChoice => Some(b"there is no such choice"),
+    }
+}
+
+/// What is told below the messages, if anything is.
+fn told(said: Option<Chosen>) -> Option<&'static [u8]>
+    ensures { option_map (λ text. text.now) result ≡ told said }
+{
+    match said {
+        Some(chosen) => answer_to(chosen),
+        None => None,
+    }
+}
+
+/// Appends the last of the message lines, and behind them what is told of a choice.
+fn put_told(
+    out: &mut Vec<u8>,
+    messages: &Messages,
+    said: Option<Chosen>,
+    columns: usize,
+    most: usize,
+) -> Result<(), AllocError>
+    ensures { OnOk result (out.new.items ≡ out.old.items
+        ++ told_lines columns most messages.now said) }
+{
+    match told(said) {
+        Some(text) if 0 < most => {
+            put_messages(out, messages, columns, most - 1)?;
+            put_message(out, text, columns)
+        }
+        _ => put_messages(out, messages, columns, most),
+    }
+}
+
+/// How keys are typed where a scroll is open, or none is.
+fn keys_told(shown: Option<Shown>) -> &'static [u8]
+    ensures { result.now ≡ keys_told shown }
+{
+    match shown {
+        Some(_) => b"arrows move, Enter chooses, Escape closes, q ends",
+        None => b"arrows move, shift or w a s d shoot, space waits, q ends",
+    }
+}
+
+#[tactic(auto, unfolding(crate::specs::Staged::help))]
+fn put_help(out: &mut Vec<u8>, shown: Option<Shown>, columns: usize) -> Result<(), AllocError>
+    ensures { OnOk result (out.new.items ≡ out.old.items ++ help shown columns) }
+{
+    out.extend_from_slice(front_of(keys_told(shown), columns))?;
     put_text(out, "\x1B[J")
 }
 
-/// The picture of a playtest in place, for a terminal of a size: from the upper left place the rows
-/// and columns around the player, all if there is room, then the last messages, how keys are typed,
-/// and nothing behind that. Only want of memory refuses it.
+/// Appends the rows of a board and what stands below them.
 #[tactic(auto, unfolding(crate::specs::Staged::stage_text))]
-pub fn staged(alloc: Global, play: &Play, size: Size) -> Result<Vec<u8>, AllocError>
-    ensures { IfOk result (λ text. text.items ≡ stage_text size play.now) }
+fn put_stage(
+    text: &mut Vec<u8>,
+    alloc: Global,
+    play: &Play,
+    shown: Option<Shown>,
+    said: Option<Chosen>,
+    size: Size,
+) -> Result<(), AllocError>
+    ensures { OnOk result (text.new.items ≡ text.old.items ++ stage_text size shown said play.now) }
 {
     let rows = usize::from(size.rows);
     let columns = columns_of(usize::from(size.columns));
@@ -237,15 +296,52 @@ pub fn staged(alloc: Global, play: &Play, size: Size) -> Result<Vec<u8>, AllocEr
         left: first_shown(60, columns_shown(columns), player_column(play)),
         columns,
     };
-    let mut text = Vec::new(alloc);
-    put_text(&mut text, "\x1B[H")?;
-    put_rows(&mut text, alloc, play, part, count)?;
-    put_messages(
-        &mut text,
+    put_text(text, "\x1B[H")?;
+    put_rows(text, alloc, play, part, count)?;
+    put_told(
+        text,
         play.messages(),
+        said,
         columns,
         rows.saturating_sub(1).saturating_sub(count),
     )?;
-    put_help(&mut text, columns)?;
+    put_help(text, shown, columns)
+}
+
+/// Appends the scroll that is open, if one is.
+fn put_open(
+    text: &mut Vec<u8>,
+    play: &Play,
+    shown: Option<Shown>,
+    size: Size,
+) -> Result<(), AllocError>
+    ensures { OnOk result (text.new.items ≡ text.old.items ++ open_text size shown play.now) }
+{
+    let Some(shown) = shown else {
+        return Ok(());
+    };
+    match play.scrolls().get(shown.scroll) {
+        Some(scroll) => put_scroll(
+            text,
+            scroll,
+            shown.line,
+            usize::from(size.rows),
+            columns_of(usize::from(size.columns)),
+        ),
+        None => Ok(()),
+    }
+}
+
+/// The picture of a playtest in place, for a terminal of its size: from the upper left place the rows
+/// and columns around the player, all if there is room, then the last messages, how keys are typed,
+/// and nothing behind that; and over it the scroll that is open. Only want of memory refuses it.
+pub fn staged(alloc: Global, tape: &Tape) -> Result<Vec<u8>, AllocError>
+    ensures { IfOk result (λ text. text.items ≡ picture (point tape.now)) }
+{
+    let play = tape.seen();
+    let shown = tape.overlay.shown;
+    let mut text = Vec::new(alloc);
+    put_stage(&mut text, alloc, play, shown, tape.overlay.said, tape.size)?;
+    put_open(&mut text, play, shown, tape.size)?;
     Ok(text)
 }

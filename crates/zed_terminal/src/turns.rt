@@ -2,8 +2,7 @@
 ghost use Rattle.std.specs.Prelude.{◌≡◌, ◌≢◌, ◌⊎◌, ◌≤◌, Err, IfErr, IfOk, None, OnErr, OnOk, false, length, true};
 ghost use Rattle.zed_host.specs.Counting.{Counts};
 ghost use Rattle.zed_terminal.specs.Terminals.{Foretold, Takes};
-ghost use Rattle.zed_terminal.specs.Staged.{stage_text};
-ghost use Rattle.zed_terminal.specs.Course.{PlaysOn, Turns, course, point};
+ghost use Rattle.zed_terminal.specs.Course.{PlaysOn, Turns, course, picture, point};
 ghost use Rattle.zed_terminal.specs.Devices.{chances};
 ghost use Rattle.zed_terminal.specs.Errors.{is_key_fault, is_screen_fault};
 ghost use Rattle.zed_terminal.specs.Stage.{Draws, stage};
@@ -57,7 +56,7 @@ pub(crate) fn show<T: Terminal>(
     tape: &Tape,
     terminal: &mut T,
 ) -> Result<(), TurnError>
-    ensures ok { OnOk result (Draws false (stage_text tape.now.size tape.now.play)
+    ensures ok { OnOk result (Draws false (picture (point tape.now))
         (T.drawn terminal.old) (T.draws_foretell terminal.old)
         (T.drawn terminal.new) (T.draws_foretell terminal.new)) }
     ensures err { IfErr result (λ e. ((e ≡ TurnError.Memory) × (terminal.new ≡ terminal.old))
@@ -67,7 +66,7 @@ pub(crate) fn show<T: Terminal>(
         (T.draw_failures terminal.old) (T.draw_failures terminal.new) }
     ensures left { T.times_left terminal.new ≡ T.times_left terminal.old }
 {
-    let text = staged(alloc, &tape.play, tape.size)?;
+    let text = staged(alloc, tape)?;
     draw(terminal, text.as_slice())
 }
 
@@ -81,7 +80,6 @@ fn turn<A: Atlas, T: Terminal, I: Inputs, C: Chance>(
     chance: &mut C,
 ) -> Result<bool, TurnError>
     requires within { tape.old.used ≤ length tape.old.words.items }
-    requires going { tape.old.play.ending ≡ None }
     ensures turns { Turns (A.world atlas.now) result
         (course (point tape.old) (stage (T.drawn terminal.old) (T.draws_foretell terminal.old)
         (I.left inputs.old) (I.inputs_foretell inputs.old)
@@ -106,8 +104,9 @@ fn turn<A: Atlas, T: Terminal, I: Inputs, C: Chance>(
     Ok(true)
 }
 
-/// Plays on, turn by turn, to the end of the playtest or of what is typed. A turn is a key, which makes
-/// a step, or another size of the terminal; what comes of each is drawn.
+/// Plays on, turn by turn, to the end of the playtest or of what is typed, and as long as what was said
+/// is shown. A turn is a key, which makes a step, or is read where a scroll is open; a choice that was
+/// kept; or another size of the terminal. What comes of each is drawn.
 ///
 /// # Errors
 /// KeyFault where the source of what is typed fails; NoWords where the source of chance fails, or brings
@@ -139,15 +138,16 @@ pub fn play_on<A: Atlas, T: Terminal, I: Inputs, C: Chance>(
     ensures left { T.times_left terminal.new ≡ T.times_left terminal.old }
 {
     for _ in 0..MOST_TURNS {
-        if tape.play.ending().is_some() {
+        if tape.is_over() {
             return Ok(());
         }
         if !turn(alloc, atlas, tape, terminal, inputs, chance)? {
             return Ok(());
         }
     }
-    match tape.play.ending() {
-        Some(_) => Ok(()),
-        None => Err(TurnError::TooManyTurns),
+    if tape.is_over() {
+        Ok(())
+    } else {
+        Err(TurnError::TooManyTurns)
     }
 }

@@ -1,8 +1,8 @@
 //! Keys and sizes as a terminal sends them, byte by byte.
 ghost use Rattle.std.specs.Prelude.{◌≡◌, ◌≤◌};
-ghost use Rattle.zed_terminal.specs.Typing.{arrow, columns_on, completes, ends, inside, is_digit, letter, longer, numbers, on, plain, rows_on, shot, typed};
+ghost use Rattle.zed_terminal.specs.Typing.{arrow, begins, columns_on, completes, ends, escaped, inside, is_digit, letter, longer, numbers, on, paging, plain, rows_on, shot, typed};
 
-use crate::input::{Input, Size};
+use crate::input::{Input, Page, Size};
 use zed_play::Key;
 
 /// How far the bytes of a key or of a size were read.
@@ -12,8 +12,12 @@ pub enum Reading {
     Between,
     /// Behind the byte escape.
     Escape,
-    /// Behind `[` or `O`, and behind numbers that change nothing.
+    /// Behind `[` or `O`.
     Arrow,
+    /// Behind numbers that change nothing.
+    Number,
+    /// Behind the number that a page key begins with.
+    Paging(Page),
     /// Behind `;`, where 2 stands for shift.
     Modifier,
     /// Behind that 2.
@@ -81,6 +85,7 @@ fn plain(byte: u8) -> Stroke
 {
     match byte {
         b'q' | 3 | 4 => on(Reading::Over),
+        b'\n' | b'\r' => completes(Some(Input::Entered)),
         _ => ends(letter(byte)),
     }
 }
@@ -128,9 +133,36 @@ fn numbers(byte: u8, key: Option<Key>) -> Stroke
     if byte == b';' {
         on(Reading::Modifier)
     } else if is_digit(byte) {
-        on(Reading::Arrow)
+        on(Reading::Number)
     } else {
         ends(key)
+    }
+}
+
+/// A byte behind an escape.
+fn escaped(byte: u8) -> Stroke
+    ensures { result ≡ escaped byte }
+{
+    match byte {
+        b'[' | b'O' => on(Reading::Arrow),
+        // The escape was a key of its own: time went by, or it came once more.
+        0 => completes(Some(Input::Escaped)),
+        27 => Stroke {
+            reading: Reading::Escape,
+            input: Some(Input::Escaped),
+        },
+        _ => plain(byte),
+    }
+}
+
+/// A byte behind the number of a page key.
+fn paging(page: Page, byte: u8) -> Stroke
+    ensures { result ≡ paging page byte }
+{
+    if byte == b'~' {
+        completes(Some(Input::Paged(page)))
+    } else {
+        numbers(byte, arrow(byte))
     }
 }
 
@@ -172,17 +204,28 @@ fn columns_on(rows: u16, columns: u16, byte: u8) -> Stroke
     }
 }
 
-/// A byte that isn't escape.
+/// A byte behind `[` or `O`.
+fn begins(byte: u8) -> Stroke
+    ensures { result ≡ begins byte }
+{
+    match byte {
+        b'5' => on(Reading::Paging(Page::Up)),
+        b'6' => on(Reading::Paging(Page::Down)),
+        b'8' => on(Reading::Size),
+        _ => numbers(byte, arrow(byte)),
+    }
+}
+
+/// A byte that doesn't begin anew.
 fn inside(reading: Reading, byte: u8) -> Stroke
     ensures { result ≡ inside reading byte }
 {
     match reading {
         Reading::Between => plain(byte),
-        Reading::Escape if byte == b'[' || byte == b'O' => on(Reading::Arrow),
-        // the escape was a key of its own, which means nothing
-        Reading::Escape => plain(byte),
-        Reading::Arrow if byte == b'8' => on(Reading::Size),
-        Reading::Arrow => numbers(byte, arrow(byte)),
+        Reading::Escape => escaped(byte),
+        Reading::Arrow => begins(byte),
+        Reading::Number => numbers(byte, arrow(byte)),
+        Reading::Paging(page) => paging(page, byte),
         Reading::Modifier if byte == b'2' => on(Reading::Shifted),
         Reading::Modifier => numbers(byte, arrow(byte)),
         Reading::Shifted => numbers(byte, shot(byte)),
@@ -194,12 +237,13 @@ fn inside(reading: Reading, byte: u8) -> Stroke
     }
 }
 
-/// What a byte comes to. An escape begins anew.
+/// What a byte comes to. An escape begins anew, but behind another one, which was a key of its own then.
 pub fn typed(reading: Reading, byte: u8) -> Stroke
     ensures { result ≡ typed reading byte }
 {
     match reading {
         Reading::Over => on(Reading::Over),
+        Reading::Escape => escaped(byte),
         _ if byte == 27 => on(Reading::Escape),
         _ => inside(reading, byte),
     }

@@ -1,7 +1,10 @@
-use Rattle.std.proofs.Common.{◌≡◌, ◌∙◌, None, Ok, Err, Some, ap, inl, inr, refl, subst}
+use Rattle.std.proofs.Common.{◌≡◌, ◌∙◌, false, None, Ok, Err, Some, ap, inl, inr, refl, subst, sym}
 use Rattle.std.proofs.lemmas.Result.{err_from_is_err_and}
 use Rattle.zed_host.proofs.Counts.{rose_later}
+use Rattle.zed_host.specs.Counting.{Counts}
+use Rattle.zed_files.specs.declared.refusal.Refusal.TheVariants.{Memory}
 use Rattle.zed_files.specs.Asked.{reading}
+use Rattle.zed_files.specs.Refusals.{is_of_keys, is_of_screen}
 use Rattle.zed_files.specs.Texts.{text_in, texts_of}
 use Rattle.zed_files.proofs.Asked.{refused_after, refused_at, then_last}
 use Rattle.zed_files.proofs.Failures.{handed_later, handed_on, memory_is_other, memory_on, none_later}
@@ -154,3 +157,30 @@ returns-in_err-tape-clause-key_faults g c =
 pub returns-in_err-tape-clause-screen_faults : goal.returns-in_err-tape-clause-screen_faults
 returns-in_err-tape-clause-screen_faults g c =
     screen_on c.from_residual-in_err-tape.result c.in_err-tape.field-0.0 _ _ c.from_residual-in_err-tape.ensures.1 c.in_err-tape.ensures.screen_faults
+
+pub returns-in_err-text-clause-key_faults : goal.returns-in_err-text-clause-key_faults
+returns-in_err-text-clause-key_faults g c =
+    keys_on c.from_residual-in_err-text.result Memory _ _ c.from_residual-in_err-text.ensures.1
+    (counts_later false _ _ _ (ap g.I.Inputs.input_failures c.fill.ensures.source) c.in_ok-tape.ensures.key_faults)
+
+pub returns-in_err-text-clause-screen_faults : goal.returns-in_err-text-clause-screen_faults
+returns-in_err-text-clause-screen_faults g c =
+    screen_on c.from_residual-in_err-text.result Memory _ _ c.from_residual-in_err-text.ensures.1 c.in_ok-tape.ensures.screen_faults
+
+pub returns-in_err-keep_all-clause-key_faults : goal.returns-in_err-keep_all-clause-key_faults
+returns-in_err-keep_all-clause-key_faults g c =
+    let counted = counts_later false _ _ _ (ap g.I.Inputs.input_failures c.fill.ensures.source) c.in_ok-tape.ensures.key_faults in
+    keys_on c.from_residual-in_err-keep_all.result c.in_err-keep_all.field-0.0 _ _ c.from_residual-in_err-keep_all.ensures.1
+    (elim c.in_err-keep_all.ensures.err [
+      | inl memory ↦ subst (λ e. Counts (is_of_keys e) (g.I.Inputs.input_failures c.args.console.now.inputs.source) (g.I.Inputs.input_failures c.perform.new.inputs.source)) (sym memory.0) counted
+      | inr file ↦ subst (λ e. Counts (is_of_keys e) (g.I.Inputs.input_failures c.args.console.now.inputs.source) (g.I.Inputs.input_failures c.perform.new.inputs.source)) (sym file.0) counted
+    ])
+
+pub returns-in_err-keep_all-clause-screen_faults : goal.returns-in_err-keep_all-clause-screen_faults
+returns-in_err-keep_all-clause-screen_faults g c =
+    let counted = c.in_ok-tape.ensures.screen_faults in
+    screen_on c.from_residual-in_err-keep_all.result c.in_err-keep_all.field-0.0 _ _ c.from_residual-in_err-keep_all.ensures.1
+    (elim c.in_err-keep_all.ensures.err [
+      | inl memory ↦ subst (λ e. Counts (is_of_screen e) (g.T.Terminal.draw_failures c.args.console.now.terminal) (g.T.Terminal.draw_failures c.perform.new.terminal)) (sym memory.0) counted
+      | inr file ↦ subst (λ e. Counts (is_of_screen e) (g.T.Terminal.draw_failures c.args.console.now.terminal) (g.T.Terminal.draw_failures c.perform.new.terminal)) (sym file.0) counted
+    ])

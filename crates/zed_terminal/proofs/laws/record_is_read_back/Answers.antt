@@ -1,5 +1,5 @@
-use Rattle.zed_terminal.proofs.ReadBack.{keys_back, words_back}
+use Rattle.zed_terminal.proofs.ReadBack.{moves_back, words_back}
 use Rattle.zed_terminal.proofs.laws.record_is_read_back.Goals as goal
 
 pub returns : goal.returns
-returns c = record { keys = keys_back; words = words_back }
+returns c = record { moves = moves_back; words = words_back }

@@ -1,5 +1,4 @@
 use Rattle.std.proofs.Common.{◌≡◌, ◌∙◌, true, sym}
-use Rattle.zed_types.proofs.Facts.{none_is}
 use Rattle.zed_terminal.proofs.Turning.{one_more}
 use Rattle.zed_terminal.proofs.turns.play_on.Goals as goal
 
@@ -7,7 +6,7 @@ pub loop-preserved : goal.loop-preserved
 loop-preserved g c =
     let old = c.loop.invariant in
     let played : c.in_ok-turn.field-0 ≡ true = c.if-not-branch.false in
-    let going = sym c.ending.ensures.result ∙ none_is c.ending.result (sym c.is_some.ensures ∙ c.if-is_some.false) in
+    let going = sym c.is_over.ensures ∙ c.if-is_over.false in
     record {
       plays = one_more (g.A.Atlas.world c.args.atlas.now) c.loop.counter c.in_ok-turn.field-0 _ _ _ old.plays going played c.in_ok-turn.ensures.turns;
       within = c.in_ok-turn.ensures.within;

@@ -5,7 +5,7 @@ pub returns-in-Some-clause-ok : goal.returns-in-Some-clause-ok
 returns-in-Some-clause-ok g c =
     let kept = c.args.self.now.kept.items in
     let taken = c.args.self.now.taken in
-    let key = c.in-Some.key.now in
+    let key = c.in-Some.kept.now in
     let there = c.in-Some.ensures.lookup.3 in
     takes_kept kept taken key (g.I.Inputs.left c.args.self.now.source) (got kept c.deref.result.now taken key c.deref.ensures.value there.0 (there.1 key))
 

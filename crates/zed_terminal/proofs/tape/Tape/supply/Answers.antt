@@ -32,6 +32,7 @@ loop-init g c =
       keys = c.in_ok-attempt.ensures.keys;
       used = lacking.2;
       screen = c.in_ok-attempt.ensures.size;
+      overlay = c.in_ok-attempt.ensures.overlay;
       calm = refl;
     }
 
@@ -73,6 +74,7 @@ loop-preserved g c =
       keys = c.in_ok-attempt-2.ensures.keys ∙ c.in_ok-refill.ensures.keys ∙ old.keys;
       used = lacking.2 ∙ used;
       screen = c.in_ok-attempt-2.ensures.size ∙ c.in_ok-refill.ensures.size ∙ old.screen;
+      overlay = c.in_ok-attempt-2.ensures.overlay ∙ c.in_ok-refill.ensures.overlay ∙ old.overlay;
       calm = c.in_ok-refill.ensures.failures ∙ old.calm;
     }
 

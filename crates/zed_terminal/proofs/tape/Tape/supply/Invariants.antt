@@ -15,5 +15,6 @@ invariant-loop g l = record {
   keys : l.self.keys ≡ l.fn.self.keys;
   used : l.self.used ≡ l.fn.self.used;
   screen : l.self.size ≡ l.fn.self.size;
+  overlay : l.self.overlay ≡ l.fn.self.overlay;
   calm : g.C.Chance.chance_failures l.chance ≡ g.C.Chance.chance_failures l.fn.chance;
 }
