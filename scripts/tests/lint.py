@@ -9,6 +9,7 @@ import re
 import sys
 from pathlib import Path
 
+import oop
 import zzt
 
 ELEMENTS = (
@@ -53,17 +54,79 @@ def lost_labels(programs, program):
                 yield line.start() + named.start(), label
 
 
-def of_program(programs, program):
+def is_utf8(text):
+    """Whether bytes are UTF-8, and not only those of shades and boxes in code page 437."""
+    try:
+        text.decode()
+    except UnicodeDecodeError:
+        return False
+    return any(byte > 127 and not 0xB0 <= byte <= 0xDF for byte in text)
+
+
+def is_known(programs, label):
+    return label.lower() == b"restart" or any(has_label(program, label) for program in programs)
+
+
+def has_name(program, name):
+    read = re.match(rb"@ *((?![0-9])[0-9A-Za-z:_]*)", program)
+    return read and read.group(1).upper() == name
+
+
+def of_command(programs, flags, said):
+    """What is found of a line of commands."""
+    for at, what, word in said.found:
+        if what in ("direction", "kind", "counter"):
+            yield f"names no {what.replace('kind', 'kind of tile')} at {at}"
+        if what == "flag" and word not in flags:
+            yield f"asks at {at} for a flag that nothing sets  {quoted(word)}"
+        if what == "name" and not any(has_name(program, word) for program in programs):
+            yield f"binds at {at} to a name that no program of its board has  {quoted(word)}"
+        if what == "unknown" and not is_known(programs, word.split(b":", 1)[1] if b":" in word else word):
+            yield f"names at {at} neither a command nor a label of its board  {quoted(word)}"
+
+
+def shown(line):
+    if line[:1] == b"$":
+        return line[1:]
+    return line.split(b";", 1)[1] if line[:1] == b"!" and b";" in line else line
+
+
+def of_lines(programs, flags, program):
+    """What is found of the lines of a program, one after the other."""
+    lines = list(oop.lines(program))
+    said = dict(oop.commands(program))
+    # the lines between which no others stand that are read
+    rest = [(at, line) for at, line in lines if line and line[:1] not in (b":", b"'", b"@")]
+    texts = {at for at, line in rest if line[0] and line[:1] not in (b"#", b"/", b"?")}
+    for at, line in lines:
+        label = line[1:].split(b";", 1)[0] if line[:1] == b"!" and line[:2] != b"!-" else b""
+        label = label.split(b":", 1)[1] if b":" in label else label
+        if label and not is_known(programs, label):
+            yield f"offers at {at} a label that no program of its board has  {quoted(label)}"
+        if line[:1] == b"@" and program[:1] != b"@":
+            yield f"program has a name below its first line at {at}"
+        if at in texts and len(shown(line)) > 42:
+            i = [place for place, _ in rest].index(at)
+            if any(0 <= j < len(rest) and rest[j][0] in texts for j in (i - 1, i + 1)):
+                yield f"program has at {at} a line of {len(shown(line))} columns, over 42"
+        if at in said:
+            yield from of_command(programs, flags, said[at])
+
+
+def of_program(programs, flags, program):
     if program and not program.endswith(b"\r"):
         yield "program has no end of line"
     first = program.find(10)
     if first >= 0:
         yield f"program has a line feed at {first}"
+    if is_utf8(program):
+        yield "program is UTF-8, not code page 437"
     for at, label in lost_labels(programs, program):
         yield f"names at {at} a label that no program of its board has  {quoted(label)}"
+    yield from of_lines(programs, flags, program)
 
 
-def of_stat(number, board, stat, programs):
+def of_stat(number, board, stat, programs, flags):
     tile = board.at(stat.x, stat.y)
     if tile is None:
         yield "is outside the table"
@@ -72,7 +135,7 @@ def of_stat(number, board, stat, programs):
     if tile is not None and tile[0] == zzt.PASSAGE and stat.p3 == number:
         yield "leads to its own board"
     if isinstance(stat.program, bytes):
-        yield from of_program(programs, stat.program)
+        yield from of_program(programs, flags, stat.program)
 
 
 def of_tiles(number, board):
@@ -85,11 +148,13 @@ def of_tiles(number, board):
             yield f"{spot}  has no stat"
 
 
-def of_board(number, board, length):
+def of_board(number, board, length, flags):
     if length > 20000:
         yield f"board {number}  body of {length} bytes, over 20000"
     if len(board.name) > 34:
         yield f"board {number}  name of {len(board.name)} bytes, over 34"
+    if is_utf8(board.name):
+        yield f"board {number}  name is UTF-8, not code page 437"
     players = sum(tile[0] == zzt.PLAYER for tile in board.tiles)
     if players != 1:
         yield f"board {number}  {players} players" if players else f"board {number}  no player"
@@ -101,7 +166,7 @@ def of_board(number, board, length):
     for i, stat in enumerate(board.stats):
         tile = board.at(stat.x, stat.y)
         spot = f"board {number} stat {i} ({stat.x},{stat.y})  {element(tile[0]) if tile else '-'}"
-        for what in of_stat(number, board, stat, programs):
+        for what in of_stat(number, board, stat, programs, flags):
             yield f"{spot}  {what}"
 
 
@@ -109,30 +174,45 @@ def of_file(data):
     """The lines of a world file, by board, and that of the whole file."""
     at = 512
     world = zzt.read(data)
+    own = [stat.program for board in world.boards for stat in board.stats if isinstance(stat.program, bytes)]
+    flags = set(world.flags) | {word[:20] for program in own for word in oop.sets(program)}
     for number, board in enumerate(world.boards):
         length = data[at] + 256 * data[at + 1]
-        yield from of_board(number, board, length)
+        yield from of_board(number, board, length, flags)
         at += 2 + length
     if at > 350000:
         yield f"world  file of {at} bytes, over 350000"
     if len(world.name) > 8:
         yield f"world  name of {len(world.name)} bytes, over 8"
+    if is_utf8(world.name):
+        yield "world  name is UTF-8, not code page 437"
 
 
 LINES = [
     *(b"#send ", b"#SEND  ", b"#zap ", b"#Restore ", b"# send ", b"#sendx ", b"#if x send ", b"say #send ", b" #send ", b"#send\r"),
     *(b"#end", b":", b"'", b"@", b"/n#send ", b"hello ", b"#zap x ", b"::", b"?#zap ", b"#go n#zap b:a#send ", b"#if x # Restore ", b":x #zap "),
+    *(b"#", b"!", b"!-", b"$", b"@ ", b"#bind ", b"#bind", b"#set ", b"#if ", b"#if not ", b"#if any ", b"#if blocked ", b"#IF contact then "),
+    *(b"#take ammo 5 ", b"#give ", b"#take ", b"#try ", b"#try n ", b"#go ", b"/", b"?", b"/n", b"?rndp ", b"#walk cw ", b"#put n ", b"#put "),
+    *(b"#become ", b"#change red ", b"#change gem ", b"#shoot ", b"#then if ", b"#char ", b"#play c#d ", b"#clear ", b"##", b"/n/"),
+    *(b"#if not not ", b"\r\r", b"!foo;", b"!x:", b"!;"),
 ]
-WORDS = [b"foo", b"Foo", b"foo1", b"foo_", b"restart", b"all:foo", b"all:Bar", b"bar", b"others:", b":", b"a:b:foo", b"b:foo", b"", b"fo\xfe", b"9foo"]
+WORDS = [
+    *(b"foo", b"Foo", b"foo1", b"foo_", b"restart", b"all:foo", b"all:Bar", b"bar", b"others:", b":", b"a:b:foo", b"b:foo", b"", b"fo\xfe", b"9foo"),
+    *(b"red key", b"bleu key", b"nroth", b"opp n", b"seek 3", b"gold 5", b"ammo 5", b"player", b"thing", b"abcdefghijklmnopqrstuvwxyz"),
+    *(b"fo\xc3\xa9", b"\xc4\xb3", b"n#on"),
+]
+LONG = [b";Take this, and that is all that there is to be said of it", b" and more than fits in a line, as all may see who look at it"]
+TAILS = [b""] * 9 + [b" gem", b" n"] + LONG
+ENDS = [b"\r"] * 12 + [b" x\r", b"\n\r", b"\n", b" "]
 
 
 def made_program(chance):
-    lines = [chance.choice(LINES) + chance.choice(WORDS) + chance.choice([b"\r"] * 12 + [b" x\r", b"\n\r", b"\n", b" "]) for _ in range(chance.randrange(6))]
-    return b"".join(lines)
+    return b"".join(b"".join(chance.choice(parts) for parts in (LINES, WORDS, TAILS, ENDS)) for _ in range(chance.randrange(6)))
 
 
 def made_board(chance, number, boards):
-    board = zzt.Board(name=b"B" * chance.choice([5, 34, 35, 50]), exits=[chance.choice([0, 0, number, chance.randrange(boards)]) for _ in range(4)])
+    name = chance.choice([b"B" * 5] * 5 + [b"B" * 34, b"B" * 35, b"B" * 50, b"\xc9\xcd\xbb", b"Caf\xc3\xa9", b"\xc4\xb3"])
+    board = zzt.Board(name=name, exits=[chance.choice([0, 0, number, chance.randrange(boards)]) for _ in range(4)])
     usual = [0, 0, 0, 21, 22, 22, 4, 5, OBJECT, 11, 41, chance.randrange(256), chance.randrange(40, 70)]
     for _ in range(chance.randrange(12)):
         x, y = chance.randint(1, zzt.COLUMNS), chance.randint(1, zzt.ROWS)
@@ -150,7 +230,9 @@ def made_board(chance, number, boards):
 
 def made_world(chance):
     boards = chance.randint(1, 4)
-    return zzt.World(name=b"W" * chance.choice([0, 6, 8, 9, 20]), boards=[made_board(chance, number, boards) for number in range(boards)])
+    flags = [chance.choice([b""] * 9 + [b"FOO"]) for _ in range(10)]
+    name = chance.choice([b"", b"W" * 6, b"W" * 8, b"W" * 9, b"W" * 20, b"\xc2\xa2"])
+    return zzt.World(name=name, flags=flags, boards=[made_board(chance, number, boards) for number in range(boards)])
 
 
 def main(words):
@@ -161,4 +243,5 @@ def main(words):
         Path(words[2]).write_bytes(zzt.write(made_world(random.Random(int(words[1])))))
 
 
-main(sys.argv[1:])
+if __name__ == "__main__":
+    main(sys.argv[1:])

@@ -15,4 +15,5 @@ pub use filter::Filter;
 pub use linting::{Lint, Strictness};
 pub use listing::{List, Listing};
 pub use logging::{Log, no_filter_leaves_an_edit_out};
+pub use world::shown_world;
 pub use zed_log::Length;

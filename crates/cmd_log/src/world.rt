@@ -17,7 +17,7 @@ use zed_types::READ_BODY_LIMIT;
 use zed_world::World;
 
 /// The world of a document that isn't stale, or the refusal of its export, at 32,767 bytes a body.
-pub(crate) fn shown_world(alloc: Global, document: &Document) -> Result<World, Stop<Reason>>
+pub fn shown_world(alloc: Global, document: &Document) -> Result<World, Stop<Reason>>
     requires sound { document.now.is_stale ≡ false }
     ensures world { IfOk result (λ world. world ≡ world_of (replay document.now.edits)) }
     ensures within { (told : Result (List ℕ) (Stopped TheReason))

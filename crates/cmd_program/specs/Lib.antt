@@ -1,4 +1,5 @@
 pub mod Codes
+pub mod Every
 pub mod Laws
 pub mod OwnLaws
 pub mod Printed

@@ -6,8 +6,8 @@ use std::alloc::{AllocError, Global};
 use zed_types::Bytes;
 use zed_world::{Code, StatData};
 
-// The bytes that a stat has of its own.
-fn own_bytes(code: &Code) -> &[u8]
+/// The bytes that a stat has of its own.
+pub(crate) fn own_bytes(code: &Code) -> &[u8]
     ensures { result.now ≡ bytes_of code.now }
 {
     match code {

@@ -1,9 +1,11 @@
-//! The command `program` of `zztool`: it prints the program of a stat as a text, or sets it to one.
+//! The command `program` of `zztool`: it prints the program of a stat, or of each, as a text, or sets
+//! it to one.
 #![tactic(auto)]
 
 mod codes;
 mod copies;
 mod error;
+mod every;
 mod laws;
 mod own_laws;
 mod printing;
@@ -14,6 +16,7 @@ mod worlds;
 
 pub use codes::program_bytes;
 pub use error::ReprogramError;
+pub use every::Programs;
 pub use laws::what_is_printed_sets_nothing;
 pub use own_laws::own_programs_stay;
 pub use printing::Program;

@@ -1,7 +1,9 @@
--- A number below another that passes a test.
+-- A number below another that passes a test, and lines below others that are passed over.
 use borrow.Author.Tests.{ltb-true, ltb-false}
-use Rattle.std.proofs.Common.{◌≡◌, ℕ, zero, suc, ◌<◌, ◌≤◌, Bool, true, false, ◌||◌, ap, refl, arith, nat_lt, subst}
+use Rattle.std.proofs.Common.{◌≡◌, ℕ, zero, suc, ◌-◌, ◌<◌, ◌≤◌, Bool, true, false, ◌||◌, List, ap, refl, arith, nat_lt, subst}
+use Rattle.zed_script.specs.Text.{line_after}
 use Rattle.zed_lint.specs.Labels.{any_below}
+use Rattle.zed_lint.specs.Said.{below, is_text, passes}
 
 or_true : (a b : Bool) → b ≡ true → (a || b) ≡ true
 or_true true b is = refl
@@ -18,3 +20,13 @@ found_below test (suc n) i within passes = by_place (nat_lt i n) refl (found_bel
         let last : n ≤ i = ltb-false i n e in
         let same : i ≡ n = omega arith in
         or_true (any_below test n) (test n) (subst (λ (m : ℕ). test m ≡ true) same passes)
+
+-- a line that is passed over
+pub line_passed : (p : List ℕ) (n line : ℕ) → 0 < n → passes p line ≡ true → below p (n - 1) (line_after p line) ≡ below p n line
+line_passed p zero line some is = absurd (omega arith)
+line_passed p (suc n) line some is = let e : suc n - 1 ≡ n = omega arith in rw (e, is) refl
+
+-- a line that isn't
+pub line_kept : (p : List ℕ) (n line : ℕ) → 0 < n → passes p line ≡ false → is_text p line ≡ below p n line
+line_kept p zero line some is = absurd (omega arith)
+line_kept p (suc n) line some is = rw is refl

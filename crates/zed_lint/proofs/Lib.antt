@@ -1,6 +1,9 @@
+pub mod Along
 pub mod Begins
 pub mod Below
+pub mod Decoded
 pub mod Fits
 pub mod Plain
 pub mod Printed
+pub mod Read
 pub mod Some

@@ -11,6 +11,7 @@ use Rattle.zed_lint.specs.Found.{each_from, noted}
 use Rattle.zed_lint.specs.Laws.{IsPlain}
 use Rattle.zed_lint.specs.Stats.{stats_findings}
 use Rattle.zed_lint.specs.Tiles.{has_element, tile_findings, tile_spot, tiles_findings, unknown}
+use Rattle.zed_lint.specs.Utf8.{utf8_name}
 use Rattle.zed_lint.specs.World.{board_findings}
 use Rattle.zed_lint.specs.declared.finding.Finding.{Finding}
 use Rattle.zed_lint.specs.declared.finding.Spot.{Spot}
@@ -122,20 +123,22 @@ known_from n b before (t ∷ ts) e known is =
     let longer : length (before ++ t ∷ []) ≡ length before + 1 = omega (arith, length-append before (t ∷ [])) in
     (low, known_from n b (before ++ t ∷ []) ts (e ∙ sym (append_assoc before (t ∷ []) ts)) (all_push before t known low) (rw longer on))
 
-pub untold : (n : ℕ) (b : BoardData) → board_findings n b ≡ [] → IsPlain b
+pub untold : (held set : List (List ℕ)) (n : ℕ) (b : BoardData) → board_findings held set n b ≡ [] → IsPlain b
 unfolding board_findings whole_findings
-untold n b is =
-    let both = front_none (whole_findings n b ++ tiles_findings n b) (stats_findings n b) is in
+untold held set n b is =
+    let both = front_none (whole_findings n b ++ tiles_findings n b) (stats_findings held set n b) is in
     let whole : whole_findings n b ≡ [] = front_none (whole_findings n b) (tiles_findings n b) both in
     let tiles = back_none (whole_findings n b) (tiles_findings n b) both in
     let body = noted (Board n) (long_body (length (body_text b))) in
     let name = noted (Board n) (long_board_name (length b.name)) in
+    let utf8 = noted (Board n) (utf8_name b.name) in
     let players = noted (Board n) (other_players (count_of 4 b.tiles)) in
-    let three = front_none (body ++ name ++ players) (exit_findings n b.properties) whole in
-    let two = front_none (body ++ name) players three in
+    let four = front_none (body ++ name ++ utf8 ++ players) (exit_findings n b.properties) whole in
+    let three = front_none (body ++ name ++ utf8) players four in
+    let two = front_none (body ++ name) utf8 three in
     record {
       short = not_long (length (body_text b)) (none_noted (Board n) _ (front_none body name two));
       named = not_long_name (length b.name) (none_noted (Board n) _ (back_none body name two));
-      one_player = one_left (count_of 4 b.tiles) (none_noted (Board n) _ (back_none (body ++ name) players three));
+      one_player = one_left (count_of 4 b.tiles) (none_noted (Board n) _ (back_none (body ++ name ++ utf8) players four));
       known = known_from n b [] b.tiles refl tt tiles;
     }

@@ -12,13 +12,14 @@ use Rattle.zed_log.specs.Stats.{element_of}
 use Rattle.zed_log.proofs.Counted.{one_more}
 use Rattle.zed_log.proofs.Printed.{plain, both, number_is, quoted_is, place_is}
 use Rattle.zed_log.proofs.ListPrinted.{element_of_is}
-use Rattle.zed_lint.specs.Lines.{finding_line, finding_words, names_words, spot_words, what_words}
+use Rattle.zed_lint.specs.Lines.{finding_line, finding_words, line_at_words, names_words, spot_words, told, what_words}
 use Rattle.zed_lint.specs.declared.finding.Finding.{Finding}
 use Rattle.zed_lint.specs.declared.finding.Spot.{Spot}
 use Rattle.zed_lint.specs.declared.finding.Spot.TheVariants.{World, Board, Tile, Stat}
 use Rattle.zed_lint.specs.declared.finding.What.{What}
-use Rattle.zed_lint.specs.declared.finding.What.TheVariants.{LongFile, LongWorldName, LongBody, LongBoardName, NoPlayer, Players, ExitToItself, UnknownElement, NoStat}
-use Rattle.zed_lint.specs.declared.finding.What.TheVariants.{OutsideTable, NeedlessStat, PassageToItself, NoEndOfLine, LineFeed, NoLabel}
+use Rattle.zed_lint.specs.declared.finding.What.TheVariants.{LongFile, LongWorldName, LongBody, LongBoardName, Utf8Name, NoPlayer, Players, ExitToItself, UnknownElement, NoStat}
+use Rattle.zed_lint.specs.declared.finding.What.TheVariants.{OutsideTable, NeedlessStat, PassageToItself, NoEndOfLine, LineFeed, Utf8Program, NoLabel}
+use Rattle.zed_lint.specs.declared.finding.What.TheVariants.{NoChoice, LowName, LongLine, NoCommand, NoDirection, NoKind, NoCounter, UnsetFlag, NoName}
 
 -- a text, and a number
 counted : (a : List ℕ) (n : ℕ) → plain a ≡ true → plain (a ++ number n) ≡ true
@@ -56,11 +57,21 @@ names_is : (at : ℕ) → plain (names_words at) ≡ true
 unfolding names_words
 names_is at = between (codes "names at ") (codes " a label that no program of its board has  ") at refl refl
 
+-- a word at a place
+told_is : (front : List ℕ) (at : ℕ) (middle word : List ℕ) → plain front ≡ true → plain middle ≡ true → plain (told front at middle word) ≡ true
+unfolding told
+told_is front at middle word f m = both (front ++ number at ++ middle) (quoted word) (between front middle at f m) (quoted_is word)
+
+line_at_is : (at : ℕ) → plain (line_at_words at) ≡ true
+unfolding line_at_words
+line_at_is at = between (codes "program has at ") (codes " a line of ") at refl refl
+
 what_is : (w : What) → plain (what_words w) ≡ true
 what_is (LongFile n) = between (codes "file of ") (codes " bytes, over 350000") n refl refl
 what_is (LongWorldName n) = between (codes "name of ") (codes " bytes, over 8") n refl refl
 what_is (LongBody n) = between (codes "body of ") (codes " bytes, over 20000") n refl refl
 what_is (LongBoardName n) = between (codes "name of ") (codes " bytes, over 34") n refl refl
+what_is Utf8Name = refl
 what_is NoPlayer = refl
 what_is (Players n) = between [] (codes " players") n refl refl
 what_is (ExitToItself side) =
@@ -72,7 +83,17 @@ what_is NeedlessStat = refl
 what_is PassageToItself = refl
 what_is NoEndOfLine = refl
 what_is (LineFeed at) = counted (codes "program has a line feed at ") at refl
+what_is Utf8Program = refl
 what_is (NoLabel at label) = both (names_words at) (quoted label) (names_is at) (quoted_is label)
+what_is (NoChoice at label) = told_is (codes "offers at ") at (codes " a label that no program of its board has  ") label refl refl
+what_is (LowName at) = counted (codes "program has a name below its first line at ") at refl
+what_is (LongLine at columns) = between (line_at_words at) (codes " columns, over 42") columns (line_at_is at) refl
+what_is (NoCommand at word) = told_is (codes "names at ") at (codes " neither a command nor a label of its board  ") word refl refl
+what_is (NoDirection at) = counted (codes "names no direction at ") at refl
+what_is (NoKind at) = counted (codes "names no kind of tile at ") at refl
+what_is (NoCounter at) = counted (codes "names no counter at ") at refl
+what_is (UnsetFlag at word) = told_is (codes "asks at ") at (codes " for a flag that nothing sets  ") word refl refl
+what_is (NoName at name) = told_is (codes "binds at ") at (codes " to a name that no program of its board has  ") name refl refl
 
 pub finding_is : (f : Finding) → plain (finding_words f) ≡ true
 unfolding finding_words

@@ -7,6 +7,7 @@ use Rattle.zed_world.specs.Writing.{body_text}
 use Rattle.zed_world.specs.declared.board.BoardData.{BoardData}
 use Rattle.zed_world.specs.declared.board.Properties.{Properties}
 use Rattle.zed_lint.specs.Found.{noted}
+use Rattle.zed_lint.specs.Utf8.{utf8_name}
 use Rattle.zed_lint.specs.declared.finding.Finding.{Finding}
 use Rattle.zed_lint.specs.declared.finding.Spot.TheVariants.{Board}
 use Rattle.zed_lint.specs.declared.finding.What.{What}
@@ -45,7 +46,8 @@ unfoldable pub exit_findings : ℕ → Properties → List Finding
 exit_findings n p =
     noted (Board n) (self_exit n North p.north) ++ noted (Board n) (self_exit n South p.south) ++ noted (Board n) (self_exit n West p.west) ++ noted (Board n) (self_exit n East p.east)
 
--- what is found of board n as a whole: its body or its name is long, its players (4) aren't one, exits lead to itself
+-- what is found of board n as a whole: its body or its name is long, its name is UTF-8, its players (4) aren't one, exits lead to itself
 unfoldable pub whole_findings : ℕ → BoardData → List Finding
 whole_findings n b =
-    noted (Board n) (long_body (length (body_text b))) ++ noted (Board n) (long_board_name (length b.name)) ++ noted (Board n) (other_players (count_of 4 b.tiles)) ++ exit_findings n b.properties
+    noted (Board n) (long_body (length (body_text b))) ++ noted (Board n) (long_board_name (length b.name)) ++ noted (Board n) (utf8_name b.name)
+    ++ noted (Board n) (other_players (count_of 4 b.tiles)) ++ exit_findings n b.properties

@@ -62,6 +62,10 @@ label_of message = behind_colon message (position is_colon message)
 abbrev pub names_label : List ℕ → Bool
 names_label word = one_word word (codes "SEND") || one_word word (codes "ZAP") || one_word word (codes "RESTORE")
 
+-- whether a line begins at a place: at the front, or behind a byte 13
+abbrev pub starts_line : List ℕ → ℕ → Bool
+starts_line p at = at == 0 || byte_is p (at - 1) 13
+
 -- whether what begins at a place begins with a command (`#`, 35) or a step (`/`, 47, or `?`, 63)
 abbrev pub begins_commands : List ℕ → ℕ → Bool
 begins_commands p at = byte_is p at 35 || byte_is p at 47 || byte_is p at 63

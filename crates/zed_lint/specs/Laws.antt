@@ -1,6 +1,6 @@
 -- What the laws promise.
 use Rattle.std.specs.List.{AllByRecursion}
-use Rattle.std.specs.Prelude.{◌≡◌, ℕ, ◌≤◌, [], length}
+use Rattle.std.specs.Prelude.{◌≡◌, ℕ, ◌≤◌, List, [], length}
 use Rattle.zed_world.specs.Contents.{Contents}
 use Rattle.zed_world.specs.Writing.{body_text}
 use Rattle.zed_world.specs.declared.board.BoardData.{BoardData}
@@ -22,4 +22,4 @@ pub record IsPlain (b : BoardData) : Type 0 where
 
 -- a board on which nothing is found is such a board
 abbrev pub UntoldIsPlain : Type 0
-UntoldIsPlain = (n : ℕ) (b : BoardData) → board_findings n b ≡ [] → IsPlain b
+UntoldIsPlain = (held set : List (List ℕ)) (n : ℕ) (b : BoardData) → board_findings held set n b ≡ [] → IsPlain b

@@ -1,8 +1,14 @@
 pub mod Boards
+pub mod Commands
+pub mod Faults
 pub mod Found
 pub mod Labels
 pub mod Laws
 pub mod Lines
+pub mod Program
+pub mod Reading
+pub mod Said
 pub mod Stats
 pub mod Tiles
+pub mod Utf8
 pub mod World

@@ -8,7 +8,9 @@ use Rattle.zed_log.specs.Program.{own_bytes}
 use Rattle.zed_types.specs.Table.{tile_at}
 use Rattle.zed_lint.specs.Found.{each_from, noted}
 use Rattle.zed_lint.specs.Labels.{labels_findings}
+use Rattle.zed_lint.specs.Program.{lines_findings}
 use Rattle.zed_lint.specs.Tiles.{wants_stat}
+use Rattle.zed_lint.specs.Utf8.{utf8_program}
 use Rattle.zed_lint.specs.declared.finding.Finding.{Finding}
 use Rattle.zed_lint.specs.declared.finding.Spot.{Spot}
 use Rattle.zed_lint.specs.declared.finding.Spot.TheVariants.{Stat}
@@ -46,20 +48,21 @@ fed_at (Some at) = Some (LineFeed at)
 unfoldable pub line_feed : List ℕ → Option What
 line_feed program = fed_at (position is_line_feed program)
 
--- what is found at a spot, among these stats, of the program that a stat has of its own
-unfoldable pub program_findings : Spot → List StatData → List ℕ → List Finding
-program_findings spot stats program =
-    noted spot (unended (slice_get program (length program - 1))) ++ noted spot (line_feed program) ++ labels_findings spot stats program
+-- what is found at a spot of the program that a stat has of its own, among these stats, with the flags that are held, and set by programs
+unfoldable pub program_findings : Spot → List StatData → List (List ℕ) → List (List ℕ) → List ℕ → List Finding
+program_findings spot stats held set program =
+    noted spot (unended (slice_get program (length program - 1))) ++ noted spot (line_feed program) ++ noted spot (utf8_program program)
+    ++ labels_findings spot stats program ++ lines_findings spot stats held set program
 
 -- the spot of stat i of board n
 abbrev pub stat_spot : ℕ → BoardData → ℕ → StatData → Spot
 stat_spot n b i s = Stat n i (record { x = s.x; y = s.y }) (tile_at b.tiles s.x s.y)
 
 -- what is found of stat i of board n
-unfoldable pub stat_findings : ℕ → BoardData → ℕ → StatData → List Finding
-stat_findings n b i s =
-    noted (stat_spot n b i s) (misplaced (tile_at b.tiles s.x s.y)) ++ noted (stat_spot n b i s) (self_passage n (tile_at b.tiles s.x s.y) s.p3) ++ program_findings (stat_spot n b i s) b.stats (own_bytes s.code)
+unfoldable pub stat_findings : List (List ℕ) → List (List ℕ) → ℕ → BoardData → ℕ → StatData → List Finding
+stat_findings held set n b i s =
+    noted (stat_spot n b i s) (misplaced (tile_at b.tiles s.x s.y)) ++ noted (stat_spot n b i s) (self_passage n (tile_at b.tiles s.x s.y) s.p3) ++ program_findings (stat_spot n b i s) b.stats held set (own_bytes s.code)
 
 -- what is found of the stats of board n
-abbrev pub stats_findings : ℕ → BoardData → List Finding
-stats_findings n b = each_from (stat_findings n b) 0 b.stats
+abbrev pub stats_findings : List (List ℕ) → List (List ℕ) → ℕ → BoardData → List Finding
+stats_findings held set n b = each_from (stat_findings held set n b) 0 b.stats

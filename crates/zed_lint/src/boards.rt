@@ -5,6 +5,7 @@ ghost use Rattle.zed_world.specs.Normal.{IsWritable};
 
 use crate::finding::{Finding, Spot, What};
 use crate::noting::note;
+use crate::utf8::utf8_name;
 use std::alloc::AllocError;
 use zed_types::{BODY_LIMIT, PLAYER, Side, Tile};
 use zed_world::{BoardData, Properties, body_len};
@@ -131,6 +132,7 @@ pub(crate) fn note_whole(
     let spot = Spot::Board(number);
     note(found, spot, long_body(body_len(board)))?;
     note(found, spot, long_board_name(board.name.as_slice().len()))?;
+    note(found, spot, utf8_name(board.name.as_slice()))?;
     note(found, spot, other_players(count_of(PLAYER, &board.tiles)))?;
     note_exits(found, number, &board.properties)
 }

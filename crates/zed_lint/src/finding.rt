@@ -26,6 +26,8 @@ pub enum What {
     LongBody(usize),
     /// The name of the board has so many bytes, over 34.
     LongBoardName(usize),
+    /// The name of the board or of the world is UTF-8.
+    Utf8Name,
     /// No tile of the board is a player.
     NoPlayer,
     /// So many tiles of the board are players, more than one.
@@ -46,8 +48,28 @@ pub enum What {
     NoEndOfLine,
     /// The program has a byte 10, the first of them at this place.
     LineFeed(usize),
+    /// The program is UTF-8.
+    Utf8Program,
     /// At this place of the program a command names this label, which no program of the board has.
     NoLabel(usize, Bytes),
+    /// The choice at this place leads to this label, which no program of the board has.
+    NoChoice(usize, Bytes),
+    /// At this place a line gives a name, and the first line gives none.
+    LowName(usize),
+    /// The line of text at this place, which is said with others, has so many columns, over 42.
+    LongLine(usize, usize),
+    /// The command at this place is this word, which is neither a command nor a label of the board.
+    NoCommand(usize, Bytes),
+    /// The command or step at this place names no direction where one belongs.
+    NoDirection(usize),
+    /// The command at this place names no kind of tile where one belongs.
+    NoKind(usize),
+    /// The command at this place names no counter.
+    NoCounter(usize),
+    /// The command at this place asks for this flag, which no program sets.
+    UnsetFlag(usize, Bytes),
+    /// The command at this place binds to this name, which no program of the board has.
+    NoName(usize, Bytes),
 }
 
 /// What was found, and where.

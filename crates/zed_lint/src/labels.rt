@@ -1,6 +1,6 @@
 //! Labels that commands of programs name, and no program has.
 ghost use Rattle.std.specs.Prelude.{◌≡◌, ◌<◌, ◌++◌, OnErr, OnOk, length, position};
-ghost use Rattle.zed_lint.specs.Labels.{begins_commands, behind_word, first_word, has_label, is_colon, is_in_commands, is_known, is_label, is_lost, is_naming, is_no_space, is_of_word, is_past_word, label_findings, label_of, labels_findings, named_label, names_label, some_has, unspaced};
+ghost use Rattle.zed_lint.specs.Labels.{begins_commands, behind_word, first_word, has_label, is_colon, is_in_commands, is_known, is_label, is_lost, is_naming, is_no_space, is_of_word, is_past_word, starts_line, label_findings, label_of, labels_findings, named_label, names_label, some_has, unspaced};
 ghost use Rattle.zed_script.specs.Label.{one_word as one_word_of};
 
 use crate::finding::{Finding, Spot, What};
@@ -85,8 +85,15 @@ fn names_label(word: &[u8]) -> bool
     is_word(word, "SEND") || is_word(word, "ZAP") || is_word(word, "RESTORE")
 }
 
-// Whether what begins at a place begins with a command or a step.
-fn begins_commands(program: &[u8], at: usize) -> bool
+/// Whether a line begins at a place.
+pub(crate) fn starts_line(program: &[u8], at: usize) -> bool
+    ensures { result ≡ starts_line program.now at }
+{
+    at == 0 || byte_is(program, at - 1, END)
+}
+
+/// Whether what begins at a place begins with a command or a step.
+pub(crate) fn begins_commands(program: &[u8], at: usize) -> bool
     ensures { result ≡ begins_commands program.now at }
 {
     byte_is(program, at, b'#') || byte_is(program, at, b'/') || byte_is(program, at, b'?')
@@ -110,9 +117,9 @@ fn colon(message: &[u8]) -> Option<usize>
     message.iter().position(|byte| *byte == b':')
 }
 
-// Of a message the label, which stands behind a colon where there is one.
+/// Of a message the label, which stands behind a colon where there is one.
 #[tactic(auto, unfolding(crate::specs::Labels::label_of))]
-fn label_of(message: &[u8]) -> &[u8]
+pub(crate) fn label_of(message: &[u8]) -> &[u8]
     ensures { result.now ≡ label_of message.now }
 {
     match colon(message) {
@@ -169,8 +176,8 @@ fn some_has(stats: &[StatData], label: &[u8]) -> bool
         .any(|stat| has_label(own_bytes(&stat.code), label))
 }
 
-// Whether a message to a label can lead anywhere.
-fn is_known(stats: &[StatData], label: &[u8]) -> bool
+/// Whether a message to a label can lead anywhere.
+pub(crate) fn is_known(stats: &[StatData], label: &[u8]) -> bool
     ensures { result ≡ is_known stats.now label.now }
 {
     is_word(label, "RESTART") || some_has(stats, label)

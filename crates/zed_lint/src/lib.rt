@@ -3,15 +3,21 @@
 #![tactic(auto)]
 
 mod boards;
+mod commands;
+mod faults;
 mod finding;
 mod labels;
 mod laws;
 mod lines;
 mod linting;
 mod noting;
+mod program;
+mod reading;
+mod said;
 mod size;
 mod stats;
 mod tiles;
+mod utf8;
 
 pub use finding::{Finding, Spot, What};
 pub use laws::{each_is_on_its_line, nothing_stays_untold};
