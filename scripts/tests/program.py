@@ -47,7 +47,7 @@ def put(name, data):
 
 def zzted(*words):
     ran = subprocess.run([ZZTED, *map(str, words)], stdin=subprocess.DEVNULL, capture_output=True, text=True, cwd=ROOM)
-    return f"{ran.returncode} {ran.stdout}{ran.stderr}".strip()
+    return f"{ran.returncode} {ran.stdout}{refusal_in(ran.stderr, words)}".strip()
 
 
 def zztool(*words):

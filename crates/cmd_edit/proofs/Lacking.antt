@@ -1,4 +1,5 @@
 -- What `new` makes of a world file, and where memory may be lacking for it.
+use Rattle.zed_types.specs.Limits.{largest_body}
 use Rattle.zed_world.specs.declared.error.WorldError.{WorldError}
 use Rattle.zed_world.specs.declared.error.WorldError.TheVariants as world
 use Rattle.zed_driver.specs.declared.command.Stop.{Stop}
@@ -6,11 +7,12 @@ use Rattle.zed_driver.specs.declared.command.Stop.TheVariants.{Memory}
 use Rattle.zed_driver.specs.declared.input.Input.TheVariants.{Bytes}
 use Rattle.zed_refusal.specs.declared.reason.Reason.{Reason}
 use Rattle.zed_refusal.specs.Stops.{world_stop}
-use Rattle.std.proofs.Common.{◌≡◌, ◌∙◌, ℕ, List, [], ◌∷◌, Result, Ok, Err, ap, refl, sym, inl, inr}
+use Rattle.std.proofs.Common.{◌≡◌, ◌∙◌, ℕ, List, [], ◌∷◌, Option, Some, None, Result, Ok, Err, ap, refl, sym, inl, inr}
 use Rattle.std.specs.Global.{Vec}
 use Rattle.std.specs.Prelude.{◌⊎◌, IfErr, MatchResult}
 use Rattle.zed_world.specs.Contents.{Contents}
 use Rattle.zed_world.specs.Reading.{Gives, world_at}
+use Rattle.zed_world.specs.Writing.{HasText, first_over, unless_refused, world_text, written}
 use Rattle.cmd_edit.specs.Fresh.{MayLack, MayWantMemory, first_file, refused_as, rewritten, taken_from}
 
 abbrev told : Stop Reason → Result (Vec ℕ) (Stop Reason)
@@ -22,12 +24,27 @@ stop_is e f is = cc
 stop_so : (e : WorldError) (f : Stop Reason) → told f ≡ told (world_stop e) → e ≡ world.Memory → f ≡ Memory
 stop_so e f is lack = stop_is (world_stop e) f is ∙ ap world_stop lack
 
--- a file that was read as a world may want memory
+abbrev as_text : List ℕ → Result (List ℕ) WorldError
+as_text bytes = Ok bytes
+
+abbrev as_refusal : WorldError → Result (List ℕ) WorldError
+as_refusal e = Err e
+
+none_over : (o : Option WorldError) (all text : List ℕ) → unless_refused o all ≡ Ok text → o ≡ None
+none_over None all text is = refl
+none_over (Some e) all text is = absurd (let no : as_refusal e ≡ as_text text = is in cc)
+
+-- a world that is written has no board over the limit
+has_text : (w : Contents) (text : List ℕ) → written largest_body w ≡ Ok text → HasText largest_body w
+unfolding written
+has_text w text is = none_over (first_over largest_body 0 w.boards) (world_text w) text is
+
+-- a file that was read as a world, and is written again, may want memory
 pub read_wants : (bytes text : List ℕ) → rewritten (world_at bytes) ≡ Ok text → MayWantMemory bytes
 read_wants bytes text is = go (world_at bytes) refl is
   where
     go : (r : Result Contents WorldError) → world_at bytes ≡ r → rewritten r ≡ Ok text → MayWantMemory bytes
-    go (Ok w) at is = inr (w, at)
+    go (Ok w) at is = inr (w, at, has_text w text is)
     go (Err e) at is = absurd (cc)
 
 -- an edit file that is made of what was read, or why there is none

@@ -8,7 +8,7 @@ use Rattle.zed_document.specs.Replica.{Replica}
 use Rattle.zed_action.specs.Refusals.{memory as no_memory}
 use Rattle.zed_action.specs.Deeds.{Acts, WordsMayTake}
 use Rattle.zed_refusal.specs.Stops.{action_stop}
-use Rattle.cmd_edit.specs.Edited.{HasEdits, IsActed, no_author}
+use Rattle.cmd_edit.specs.Edited.{ActMayTake, HasEdits, IsActed, no_author}
 
 has_own : (d : Replica) → d.is_stale ≡ false → HasEdits d d.world d.edits
 has_own d sound = record { world_is = refl; edits_are = refl; sound = sound }
@@ -21,9 +21,9 @@ action_done d replica words es sound acts = (d, has_own d sound, (Ok es, acts, r
 -- the action was refused
 pub action_refused : (d : Replica) (replica : ℕ) (words : List (List ℕ)) (e : ActionError) → d.is_stale ≡ false
     → (e ≡ no_memory) ⊎ Acts d replica words (Err e) → (e ≡ no_memory → WordsMayTake d replica words)
-    → ((action_stop e ≡ Memory) × WordsMayTake d replica words) ⊎ IsActed replica words (d.world, d.edits) (Err (action_stop e))
+    → ((action_stop e ≡ Memory) × ActMayTake replica words (d.world, d.edits)) ⊎ IsActed replica words (d.world, d.edits) (Err (action_stop e))
 action_refused d replica words e sound why takes = elim why [
-  | inl lacks ↦ inl (ap action_stop lacks, takes lacks)
+  | inl lacks ↦ inl (ap action_stop lacks, (d, has_own d sound, takes lacks))
   | inr acts ↦ inr (d, has_own d sound, (Err e, acts, refl))
 ]
 

@@ -8,7 +8,7 @@ use Rattle.std.specs.Prelude.{◌≡◌, ◌⊎◌, ℕ, Bool, true, false, List
 use Rattle.zed_export.specs.Fresh.{fresh_world}
 use Rattle.zed_world.specs.Contents.{Contents}
 use Rattle.zed_world.specs.Reading.{BeginsAWorld, world_at}
-use Rattle.zed_world.specs.Writing.{written}
+use Rattle.zed_world.specs.Writing.{HasText, written}
 use Rattle.zed_editfile.specs.Spelling.{file_text}
 use Rattle.zed_driver.specs.declared.command.Stop.{Stop}
 use Rattle.zed_driver.specs.declared.command.Stop.TheVariants.{Memory, File}
@@ -44,10 +44,10 @@ taken_from (Bytes bytes) = refused_as (rewritten (world_at bytes))
 taken_from Missing = Err File
 taken_from Failed = Err File
 
--- a file that is taken as a world may want memory: its front is that of one, or all of it is read. So what is wrong with the front is told,
--- whether memory is lacking or not
+-- a file that is taken as a world may want memory: to be read, where its front is that of one; or, once it was read, to be written, where no
+-- board is over the limit
 abbrev pub MayWantMemory : List ℕ → Type 0
-MayWantMemory bytes = BeginsAWorld bytes ⊎ ((w : Contents) × (world_at bytes ≡ Ok w))
+MayWantMemory bytes = BeginsAWorld bytes ⊎ ((w : Contents) × (world_at bytes ≡ Ok w) × HasText largest_body w)
 
 -- the edit that makes a world of these bytes
 abbrev pub genesis_of : List ℕ → Edit

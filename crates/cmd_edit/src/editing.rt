@@ -1,9 +1,8 @@
 //! The command `edit`: an action of an author on an edit file.
 ghost use Rattle.std.specs.Prelude.{◌≡◌, ◌≤◌, ◌⊎◌, Err, MatchResult, Ok, false};
-ghost use Rattle.zed_action.specs.Deeds.{WordsMayTake};
 ghost use Rattle.zed_driver.specs.declared.command.Stop.TheVariants.{Memory};
 ghost use Rattle.zed_files.specs.Texts.{texts_of};
-ghost use Rattle.cmd_edit.specs.Edited.{IsActed};
+ghost use Rattle.cmd_edit.specs.Edited.{ActMayTake, IsActed};
 
 use std::alloc::Global;
 use zed_action::act;
@@ -26,7 +25,8 @@ fn acted(
     ensures acted { MatchResult result
         (λ _. IsActed replica (texts_of words.now)
         (document.old.world, document.old.edits) (Ok document.new.edits))
-        (λ e. ((e ≡ Memory) × WordsMayTake document.old replica (texts_of words.now))
+        (λ e. ((e ≡ Memory) × ActMayTake replica (texts_of words.now)
+        (document.old.world, document.old.edits))
         ⊎ IsActed replica (texts_of words.now)
         (document.old.world, document.old.edits) (Err e)) }
     ensures world { document.new.world ≡ document.old.world }
@@ -55,7 +55,7 @@ impl<'a> Edit<'a> {
 }
 
 impl Action for Edit<'_> {
-    ghost use Rattle.cmd_edit.specs.Edited.{IsActed, no_author};
+    ghost use Rattle.cmd_edit.specs.Edited.{ActMayTake, IsActed, no_author};
     ghost use Rattle.zed_files.specs.Texts.{texts_of};
 
     type Refusal = Reason;
@@ -65,6 +65,8 @@ impl Action for Edit<'_> {
     ghost refuses = { λ s. no_author s.replica };
 
     ghost Does = { λ s. IsActed s.replica (texts_of s.words.now) };
+
+    ghost MayTake = { λ s. ActMayTake s.replica (texts_of s.words.now) };
 
     fn refused_for(reason: Reason) -> Reason
         ensures { result ≡ reason }

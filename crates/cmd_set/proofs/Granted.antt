@@ -11,10 +11,10 @@ use Rattle.zed_driver.specs.declared.command.Stop.TheVariants.{Memory}
 use Rattle.zed_files.specs.Opened.{FileEdits}
 use Rattle.zed_set_words.specs.declared.bad.BadWord.{BadWord as WrongWord}
 use Rattle.zed_set_words.specs.declared.wishes.Wish.{Wish}
-use Rattle.cmd_set.specs.Granting.{Sets}
+use Rattle.cmd_set.specs.Granting.{Sets, WishMayTake}
 use Rattle.cmd_set.specs.declared.reason.SetReason.{SetReason}
 use Rattle.cmd_set.specs.declared.reason.SetReason.TheVariants.{BadWord}
-use Rattle.cmd_set.specs.Setting.{DoesWish, IsDone, first_refusal, set_stop}
+use Rattle.cmd_set.specs.Setting.{DoesWish, IsDone, MayTakeOn, MayTakeFor, first_refusal, set_stop}
 
 -- the wish was done
 pub wish_done : (replica : ℕ) (w : Wish) (d : Replica) (es : List Edit) → d.is_stale ≡ false → Sets d replica w (Ok es)
@@ -23,10 +23,10 @@ wish_done replica w d es sound sets = (d, (refl, refl, sound), (Ok es, sets, ref
 
 -- the wish was refused
 pub wish_refused : (replica : ℕ) (w : Wish) (d : Replica) (e : ActionError) (told : Stop SetReason) → d.is_stale ≡ false
-    → told ≡ set_stop e → (e ≡ no_memory) ⊎ Sets d replica w (Err e)
-    → (told ≡ Memory) ⊎ IsDone replica w (d.world, d.edits) (Err told)
-wish_refused replica w d e told sound is why = elim why [
-  | inl lacks ↦ inl (is ∙ ap set_stop lacks)
+    → told ≡ set_stop e → (e ≡ no_memory) ⊎ Sets d replica w (Err e) → (e ≡ no_memory → WishMayTake d replica w)
+    → ((told ≡ Memory) × MayTakeOn replica w (d.world, d.edits)) ⊎ IsDone replica w (d.world, d.edits) (Err told)
+wish_refused replica w d e told sound is why takes = elim why [
+  | inl lacks ↦ inl (is ∙ ap set_stop lacks, (d, (refl, refl, sound), takes lacks))
   | inr sets ↦ inr (d, (refl, refl, sound), (Err e, sets, ap (λ x. Err x) is))
 ]
 
@@ -39,10 +39,10 @@ unsaid bad = Err bad
 -- the words wish this
 pub does_wish : {X : Type 0} (replica : ℕ) (w : Wish) (words : Result Wish WrongWord) (f : FileEdits) (es : List Edit) (result : Result X (Stop SetReason))
     → said w ≡ words
-    → MatchResult result (λ _. IsDone replica w f (Ok es)) (λ e. (e ≡ Memory) ⊎ IsDone replica w f (Err e))
-    → MatchResult result (λ _. DoesWish replica words f (Ok es)) (λ e. (e ≡ Memory) ⊎ DoesWish replica words f (Err e))
+    → MatchResult result (λ _. IsDone replica w f (Ok es)) (λ e. ((e ≡ Memory) × MayTakeOn replica w f) ⊎ IsDone replica w f (Err e))
+    → MatchResult result (λ _. DoesWish replica words f (Ok es)) (λ e. ((e ≡ Memory) × MayTakeFor replica words f) ⊎ DoesWish replica words f (Err e))
 does_wish replica w words f es result is done =
-    subst (λ s. MatchResult result (λ _. DoesWish replica s f (Ok es)) (λ e. (e ≡ Memory) ⊎ DoesWish replica s f (Err e))) is done
+    subst (λ s. MatchResult result (λ _. DoesWish replica s f (Ok es)) (λ e. ((e ≡ Memory) × MayTakeFor replica s f) ⊎ DoesWish replica s f (Err e))) is done
 
 abbrev refused : WrongWord → Option SetReason
 refused bad = Some (BadWord bad)

@@ -15,7 +15,7 @@ use Rattle.zed_files.specs.Rewrites.{RewritesCome, RewritesWant}
 use Rattle.zed_set_words.specs.declared.bad.BadWord.{BadWord as WrongWord}
 use Rattle.zed_set_words.specs.declared.wishes.Wish.{Wish}
 use Rattle.zed_set_words.specs.Rows.{wish_of}
-use Rattle.cmd_set.specs.Granting.{Sets}
+use Rattle.cmd_set.specs.Granting.{Sets, WishMayTake}
 use Rattle.cmd_set.specs.declared.reason.SetReason.{SetReason}
 use Rattle.cmd_set.specs.declared.reason.SetReason.TheVariants.{BadWord, Common}
 
@@ -42,10 +42,19 @@ IsOfFile d f = (d.world ≡ f.0) × (d.edits ≡ f.1) × (d.is_stale ≡ false)
 abbrev pub IsDone : ℕ → Wish → FileEdits → Result (List Edit) (Stop SetReason) → Type 0
 IsDone replica w f r = (d : Replica) × IsOfFile d f × ((made : Made) × Sets d replica w made × (r ≡ wished made))
 
+-- it may take memory on such a document
+abbrev pub MayTakeOn : ℕ → Wish → FileEdits → Type 0
+MayTakeOn replica w f = (d : Replica) × IsOfFile d f × WishMayTake d replica w
+
 -- the same of what the words wish, if they wish something
 abbrev pub DoesWish : ℕ → Result Wish WrongWord → FileEdits → Result (List Edit) (Stop SetReason) → Type 0
 DoesWish replica (Ok w) f r = IsDone replica w f r
 DoesWish replica (Err bad) f r = ⊥
+
+-- and of where that may take memory
+abbrev pub MayTakeFor : ℕ → Result Wish WrongWord → FileEdits → Type 0
+MayTakeFor replica (Ok w) f = MayTakeOn replica w f
+MayTakeFor replica (Err bad) f = ⊥
 
 -- ---- what the command asks for and comes to
 
@@ -56,4 +65,4 @@ SetWants file replica words files wanted = RewritesWant (first_refusal replica (
 -- FILE is written again with what the wish comes to, and its edits are counted; or the first refusal
 abbrev pub SetComes : List ℕ → ℕ → List (List ℕ) → List Input → Result Effect (Stop SetReason) → Type 0
 SetComes file replica words files r =
-    RewritesCome (first_refusal replica (wish_of words)) (DoesWish replica (wish_of words)) Common file files r
+    RewritesCome (first_refusal replica (wish_of words)) (MayTakeFor replica (wish_of words)) (DoesWish replica (wish_of words)) Common file files r

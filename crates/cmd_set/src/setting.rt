@@ -1,7 +1,7 @@
 //! Setting what an author's words say, in an edit file.
 ghost use Rattle.std.specs.Prelude.{◌≡◌, ◌⊎◌, Err, MatchResult, Ok, false};
 ghost use Rattle.cmd_set.specs.declared.reason.SetReason.TheVariants.{Common};
-ghost use Rattle.cmd_set.specs.Setting.{IsDone};
+ghost use Rattle.cmd_set.specs.Setting.{IsDone, MayTakeOn};
 ghost use Rattle.zed_driver.specs.declared.command.Stop.TheVariants.{Memory};
 
 use crate::grant;
@@ -14,7 +14,7 @@ use zed_files::Action;
 use zed_refusal::Reason;
 use zed_set_words::{Wish, wish};
 
-// A document gets what a wish of a replica comes to.
+// A document gets what a wish of a replica comes to. Memory is lacking only where that may take some.
 fn granted(
     alloc: Global,
     document: &mut Document,
@@ -25,7 +25,8 @@ fn granted(
     ensures done { MatchResult result
         (λ _. IsDone replica wish.entry (document.old.world, document.old.edits)
         (Ok document.new.edits))
-        (λ e. (e ≡ Memory)
+        (λ e. ((e ≡ Memory)
+        × MayTakeOn replica wish.entry (document.old.world, document.old.edits))
         ⊎ IsDone replica wish.entry (document.old.world, document.old.edits) (Err e)) }
     ensures world { document.new.world ≡ document.old.world }
 {
@@ -61,7 +62,7 @@ impl<'a> Set<'a> {
 
 impl<'a> Action for Set<'a> {
     ghost use Rattle.cmd_set.specs.declared.reason.SetReason.TheVariants.{Common};
-    ghost use Rattle.cmd_set.specs.Setting.{DoesWish, first_refusal};
+    ghost use Rattle.cmd_set.specs.Setting.{DoesWish, MayTakeFor, first_refusal};
     ghost use Rattle.zed_set_words.specs.Readers.{words_of};
     ghost use Rattle.zed_set_words.specs.Rows.{wish_of};
 
@@ -72,6 +73,8 @@ impl<'a> Action for Set<'a> {
     ghost refuses = { λ s. first_refusal s.replica (wish_of (words_of s.words.now)) };
 
     ghost Does = { λ s. DoesWish s.replica (wish_of (words_of s.words.now)) };
+
+    ghost MayTake = { λ s. MayTakeFor s.replica (wish_of (words_of s.words.now)) };
 
     fn refused_for(reason: Reason) -> SetReason
         ensures { result ≡ Common reason }

@@ -18,9 +18,9 @@ use Rattle.zed_refusal.specs.declared.reason.Reason.TheVariants.{Clash}
 use Rattle.zed_refusal.specs.Stops.{file_stop, stop_as}
 use Rattle.zed_files.specs.Collected.{CameInto, IsOf, world_in}
 use Rattle.zed_files.specs.Files.{IsFile, ReadsFile, WantsMemory}
-use Rattle.zed_files.specs.Gathers.{BeginsWithBytes, first_stop, stop_in}
+use Rattle.zed_files.specs.Gathers.{first_stop, stop_in}
 use Rattle.zed_files.specs.Opened.{FileEdits}
-use Rattle.zed_files.specs.Rewrites.{IsRewritten, Opens, OpensFile, RewritesCome, RewritesStand, next_file}
+use Rattle.zed_files.specs.Rewrites.{ActionLacks, IsRewritten, Opens, OpensFile, RewritesCome, RewritesLack, RewritesStand, next_file}
 use Rattle.zed_files.proofs.Deliveries.{came_agree}
 use Rattle.zed_files.proofs.FilesRead.{world_asked}
 use Rattle.zed_files.proofs.Gathers.{came_to, its_clash, one_read}
@@ -127,44 +127,46 @@ now_held refusal file files i document d more stands fresh opens =
     subst (λ fs. RewritesStand refusal (fs ++ i ∷ []) (Some d)) (sym (none_held refusal files document stands none.1)) (none.0, (d, refl, fresh, opens))
 
 -- or it wasn't
-pub not_held : {E : Type 0} (refusal : Option E) (Does : FileEdits → Result (List Edit) (Stop E) → Type 0) (told : Reason → E) (file : List ℕ) (files : List Input) (i : Input) (document : Option Replica) (e : Stop Reason)
+pub not_held : {E : Type 0} (refusal : Option E) (MayTake : FileEdits → Type 0) (Does : FileEdits → Result (List Edit) (Stop E) → Type 0) (told : Reason → E) (file : List ℕ) (files : List Input) (i : Input) (document : Option Replica) (e : Stop Reason)
     → is_some (next_file refusal file document) ≡ true → RewritesStand refusal files document
-    → ((e ≡ Memory) × ((bytes : List ℕ) × (i ≡ Bytes bytes))) ⊎ OpensFile None i (Err e)
-    → RewritesCome refusal Does told file (files ++ i ∷ []) (Err (stop_as told e))
-not_held refusal Does told file files i document e more stands why =
+    → ((e ≡ Memory) × ((bytes : List ℕ) × (i ≡ Bytes bytes) × WantsMemory None bytes)) ⊎ OpensFile None i (Err e)
+    → RewritesCome refusal MayTake Does told file (files ++ i ∷ []) (Err (stop_as told e))
+not_held refusal MayTake Does told file files i document e more stands why =
     let none = awaited refusal file document more in
-    subst (λ fs. RewritesCome refusal Does told file (fs ++ i ∷ []) (Err (stop_as told e))) (sym (none_held refusal files document stands none.1)) (elim why [
-      | inl lack ↦ (none.0, inr (ap (λ x. Err (stop_as told x)) lack.0, subst (λ x. BeginsWithBytes (x ∷ [])) (sym lack.1.1) tt))
+    subst (λ fs. RewritesCome refusal MayTake Does told file (fs ++ i ∷ []) (Err (stop_as told e))) (sym (none_held refusal files document stands none.1)) (elim why [
+      | inl lack ↦ (none.0, inr (ap (λ x. Err (stop_as told x)) lack.0, subst (λ x. RewritesLack MayTake Does x) (sym lack.1.1) (inl lack.1.2)))
       | inr is ↦ (none.0, inl (Err e, is, refl))
     ])
 
 -- it is refused before its file is read
-pub refused_before : {E : Type 0} (refusal : Option E) (Does : FileEdits → Result (List Edit) (Stop E) → Type 0) (told : Reason → E) (file : List ℕ) (files : List Input) (document : Option Replica) (e : E)
-    → RewritesStand refusal files document → refusal ≡ Some e → RewritesCome refusal Does told file files (Err (Refused e))
-refused_before refusal Does told file [] document e stands is = (e, is, refl)
-refused_before refusal Does told file (i ∷ []) document e stands is = absurd (let no : None ≡ Some e = sym stands.0 ∙ is in cc)
-refused_before refusal Does told file (i ∷ j ∷ files) document e stands is = absurd stands
+pub refused_before : {E : Type 0} (refusal : Option E) (MayTake : FileEdits → Type 0) (Does : FileEdits → Result (List Edit) (Stop E) → Type 0) (told : Reason → E) (file : List ℕ) (files : List Input) (document : Option Replica) (e : E)
+    → RewritesStand refusal files document → refusal ≡ Some e → RewritesCome refusal MayTake Does told file files (Err (Refused e))
+refused_before refusal MayTake Does told file [] document e stands is = (e, is, refl)
+refused_before refusal MayTake Does told file (i ∷ []) document e stands is = absurd (let no : None ≡ Some e = sym stands.0 ∙ is in cc)
+refused_before refusal MayTake Does told file (i ∷ j ∷ files) document e stands is = absurd stands
 
-opened_bytes : (i : Input) (f : FileEdits) → OpensFile None i (Ok f) → BeginsWithBytes (i ∷ [])
-opened_bytes (Bytes bytes) f is = tt
-opened_bytes Missing f is = absurd (let no = is in cc)
-opened_bytes Failed f is = absurd (let no = is in cc)
+-- memory may be lacking behind the reading of a file
+opened_lacks : {E : Type 0} (MayTake : FileEdits → Type 0) (Does : FileEdits → Result (List Edit) (Stop E) → Type 0) (i : Input) (f : FileEdits)
+    → OpensFile None i (Ok f) → ActionLacks MayTake Does f → RewritesLack MayTake Does i
+opened_lacks MayTake Does (Bytes bytes) f is lacks = inr (f, is, lacks)
+opened_lacks MayTake Does Missing f is lacks = absurd (let no = is in cc)
+opened_lacks MayTake Does Failed f is lacks = absurd (let no = is in cc)
 
 -- the action was done on the document that it holds
-pub acted : {E : Type 0} (refusal : Option E) (Does : FileEdits → Result (List Edit) (Stop E) → Type 0) (told : Reason → E) (file : List ℕ) (files : List Input) (document : Option Replica) (d : Replica) (result : Result Effect (Stop E))
+pub acted : {E : Type 0} (refusal : Option E) (MayTake : FileEdits → Type 0) (Does : FileEdits → Result (List Edit) (Stop E) → Type 0) (told : Reason → E) (file : List ℕ) (files : List Input) (document : Option Replica) (d : Replica) (result : Result Effect (Stop E))
     → RewritesStand refusal files document → document ≡ Some d
-    → MatchResult result (λ x. IsRewritten Does told file (Ok (d.world, d.edits)) (Ok x)) (λ e. (e ≡ Memory) ⊎ IsRewritten Does told file (Ok (d.world, d.edits)) (Err e))
-    → MatchResult result (λ x. RewritesCome refusal Does told file files (Ok x)) (λ e. RewritesCome refusal Does told file files (Err e))
-acted {E} refusal Does told file files document d result stands at is = go result is
+    → MatchResult result (λ x. IsRewritten Does told file (Ok (d.world, d.edits)) (Ok x)) (λ e. ((e ≡ Memory) × ActionLacks MayTake Does (d.world, d.edits)) ⊎ IsRewritten Does told file (Ok (d.world, d.edits)) (Err e))
+    → MatchResult result (λ x. RewritesCome refusal MayTake Does told file files (Ok x)) (λ e. RewritesCome refusal MayTake Does told file files (Err e))
+acted {E} refusal MayTake Does told file files document d result stands at is = go result is
   where
     has : (i : Input) × (files ≡ i ∷ []) × (refusal ≡ None) × (d.is_stale ≡ false) × OpensFile None i (Ok (d.world, d.edits))
     has = held refusal files document d stands at
 
-    go : (r : Result Effect (Stop E)) → MatchResult r (λ x. IsRewritten Does told file (Ok (d.world, d.edits)) (Ok x)) (λ e. (e ≡ Memory) ⊎ IsRewritten Does told file (Ok (d.world, d.edits)) (Err e))
-        → MatchResult r (λ x. RewritesCome refusal Does told file files (Ok x)) (λ e. RewritesCome refusal Does told file files (Err e))
-    go (Ok x) so = subst (λ fs. RewritesCome refusal Does told file fs (Ok x)) (sym has.1) (has.2, inl (Ok (d.world, d.edits), has.4, so))
-    go (Err e) so = subst (λ fs. RewritesCome refusal Does told file fs (Err e)) (sym has.1) (elim so [
-      | inl lack ↦ (has.2, inr (ap (λ x. Err x) lack, opened_bytes has.0 (d.world, d.edits) has.4))
+    go : (r : Result Effect (Stop E)) → MatchResult r (λ x. IsRewritten Does told file (Ok (d.world, d.edits)) (Ok x)) (λ e. ((e ≡ Memory) × ActionLacks MayTake Does (d.world, d.edits)) ⊎ IsRewritten Does told file (Ok (d.world, d.edits)) (Err e))
+        → MatchResult r (λ x. RewritesCome refusal MayTake Does told file files (Ok x)) (λ e. RewritesCome refusal MayTake Does told file files (Err e))
+    go (Ok x) so = subst (λ fs. RewritesCome refusal MayTake Does told file fs (Ok x)) (sym has.1) (has.2, inl (Ok (d.world, d.edits), has.4, so))
+    go (Err e) so = subst (λ fs. RewritesCome refusal MayTake Does told file fs (Err e)) (sym has.1) (elim so [
+      | inl lack ↦ (has.2, inr (ap (λ x. Err x) lack.0, opened_lacks MayTake Does has.0 (d.world, d.edits) has.4 lack.1))
       | inr is ↦ (has.2, inl (Ok (d.world, d.edits), has.4, is))
     ])
 

@@ -15,8 +15,7 @@ use Rattle.zed_op.specs.Set.{Agrees, set_of}
 use Rattle.zed_document.specs.Delivery.{IsFirstClash}
 use Rattle.zed_document.specs.Replica.{Replica}
 use Rattle.zed_editfile.specs.Spelling.{file_text}
-use Rattle.zed_files.specs.Files.{IsFile}
-use Rattle.zed_files.specs.Gathers.{BeginsWithBytes}
+use Rattle.zed_files.specs.Files.{IsFile, WantsMemory}
 use Rattle.zed_files.specs.Lines.{edits_line}
 use Rattle.zed_files.specs.Opened.{FileEdits}
 
@@ -57,12 +56,23 @@ IsRewritten Does told file (Err e) r = r ≡ Err (stop_as told e)
 abbrev pub RewritesWant : {E : Type 0} → Option E → List ℕ → List Input → List ℕ → Type 0
 RewritesWant refusal file files name = (refusal ≡ None) × (files ≡ []) × (name ≡ file)
 
--- it comes to its refusal before any file is read; or to what comes of its file's edits; or memory is lacking, which it may be where the file is there
-abbrev pub RewritesCome : {E : Type 0} → Option E → (FileEdits → Result (List Edit) (Stop E) → Type 0) → (Reason → E) → List ℕ → List Input → Result Effect (Stop E) → Type 0
-RewritesCome {E} refusal Does told file [] r = (e : E) × (refusal ≡ Some e) × (r ≡ Err (Refused e))
-RewritesCome refusal Does told file (i ∷ []) r =
-    (refusal ≡ None) × (((opened : Result FileEdits (Stop Reason)) × OpensFile None i opened × IsRewritten Does told file opened r) ⊎ ((r ≡ Err Memory) × BeginsWithBytes (i ∷ [])))
-RewritesCome refusal Does told file (i ∷ j ∷ files) r = ⊥
+-- memory may be lacking behind the reading of these edits: for the action, where it may take some, or for writing what it made
+abbrev pub ActionLacks : {E : Type 0} → (FileEdits → Type 0) → (FileEdits → Result (List Edit) (Stop E) → Type 0) → FileEdits → Type 0
+ActionLacks MayTake Does f = MayTake f ⊎ ((es : List Edit) × Does f (Ok es))
+
+-- memory may be lacking for reading the file; or, once it was read, for the action or behind it
+abbrev pub RewritesLack : {E : Type 0} → (FileEdits → Type 0) → (FileEdits → Result (List Edit) (Stop E) → Type 0) → Input → Type 0
+RewritesLack MayTake Does (Bytes bytes) =
+    WantsMemory None bytes ⊎ ((f : FileEdits) × Opens None bytes (Ok f) × ActionLacks MayTake Does f)
+RewritesLack MayTake Does Missing = ⊥
+RewritesLack MayTake Does Failed = ⊥
+
+-- it comes to its refusal before any file is read; or to what comes of its file's edits; or memory is lacking
+abbrev pub RewritesCome : {E : Type 0} → Option E → (FileEdits → Type 0) → (FileEdits → Result (List Edit) (Stop E) → Type 0) → (Reason → E) → List ℕ → List Input → Result Effect (Stop E) → Type 0
+RewritesCome {E} refusal MayTake Does told file [] r = (e : E) × (refusal ≡ Some e) × (r ≡ Err (Refused e))
+RewritesCome refusal MayTake Does told file (i ∷ []) r =
+    (refusal ≡ None) × (((opened : Result FileEdits (Stop Reason)) × OpensFile None i opened × IsRewritten Does told file opened r) ⊎ ((r ≡ Err Memory) × RewritesLack MayTake Does i))
+RewritesCome refusal MayTake Does told file (i ∷ j ∷ files) r = ⊥
 
 -- ---- for the proof
 

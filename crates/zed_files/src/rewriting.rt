@@ -8,9 +8,10 @@ ghost use Rattle.zed_driver.specs.Effects.{writes};
 ghost use Rattle.zed_editfile.specs.Spelling.{file_text};
 ghost use Rattle.zed_refusal.specs.declared.reason.Reason.{Reason as TheReason};
 ghost use Rattle.zed_refusal.specs.Stops.{stop_as};
+ghost use Rattle.zed_files.specs.Files.{WantsMemory};
 ghost use Rattle.zed_files.specs.Lines.{edits_line};
 ghost use Rattle.zed_files.specs.Opened.{FileEdits};
-ghost use Rattle.zed_files.specs.Rewrites.{IsRewritten, OpensFile};
+ghost use Rattle.zed_files.specs.Rewrites.{ActionLacks, IsRewritten, OpensFile};
 
 use crate::refusal::edits_told;
 use crate::settling::opened;
@@ -33,6 +34,9 @@ pub trait Action: Drop {
     /// A document of this world, with these edits, comes to have these, or it is refused.
     ghost Does: { Self → FileEdits → Result (List TheEdit) (Stopped Self.Refusal) → Type 0 };
 
+    /// It may take memory on a document of this world, with these edits.
+    ghost MayTake: { Self → FileEdits → Type 0 };
+
     fn refused_for(reason: Reason) -> Self::Refusal
         ensures { result ≡ refusal_for reason };
 
@@ -44,7 +48,7 @@ pub trait Action: Drop {
         requires wanted { refuses self.now ≡ None }
         ensures does { MatchResult result
             (λ _. Does self.now (document.old.world, document.old.edits) (Ok document.new.edits))
-            (λ e. (e ≡ Memory)
+            (λ e. ((e ≡ Memory) × MayTake self.now (document.old.world, document.old.edits))
             ⊎ Does self.now (document.old.world, document.old.edits) (Err e)) }
         ensures world { document.new.world ≡ document.old.world };
 }
@@ -64,7 +68,8 @@ fn stopped<A: Action>(stop: Stop<Reason>) -> Stop<A::Refusal>
 fn opened_file(alloc: Global, file: Input) -> Result<Document, Stop<Reason>>
     ensures opened { MatchResult result
         (λ d. OpensFile None file (Ok (d.world, d.edits)))
-        (λ e. ((e ≡ Memory) × ((bytes : List ℕ) × (file ≡ Bytes bytes)))
+        (λ e. ((e ≡ Memory)
+        × ((bytes : List ℕ) × (file ≡ Bytes bytes) × WantsMemory None bytes))
         ⊎ OpensFile None file (Err e)) }
     ensures sound { IfOk result (λ d. d.is_stale ≡ false) }
 {
@@ -89,7 +94,8 @@ fn rewritten(alloc: Global, file: &str, document: &Document) -> Result<Effect, A
     }
 }
 
-// What comes of the document of a file by an action.
+// What comes of the document of a file by an action. Memory is lacking only where the action may take
+// some, or was done.
 fn acted<A: Action>(
     alloc: Global,
     file: &str,
@@ -101,7 +107,9 @@ fn acted<A: Action>(
     ensures { MatchResult result
         (λ x. IsRewritten (A.Does action.now) A.refusal_for file.now
         (Ok (document.world, document.edits)) (Ok x))
-        (λ e. (e ≡ Memory) ⊎ IsRewritten (A.Does action.now) A.refusal_for file.now
+        (λ e. ((e ≡ Memory)
+        × ActionLacks (A.MayTake action.now) (A.Does action.now) (document.world, document.edits))
+        ⊎ IsRewritten (A.Does action.now) A.refusal_for file.now
         (Ok (document.world, document.edits)) (Err e)) }
 {
     let mut document = document;
@@ -141,7 +149,7 @@ impl<'a, A: Action> Command for Rewrites<'a, A> {
 
     ghost Wants = { λ c. RewritesWant (A.refuses c.action) c.file.now };
 
-    ghost Comes = { λ c. RewritesCome (A.refuses c.action) (A.Does c.action) A.refusal_for c.file.now };
+    ghost Comes = { λ c. RewritesCome (A.refuses c.action) (A.MayTake c.action) (A.Does c.action) A.refusal_for c.file.now };
 
     ghost Stands = { λ c files s. (s.file ≡ c.file) × (s.action ≡ c.action)
         × RewritesStand (A.refuses c.action) files s.document };

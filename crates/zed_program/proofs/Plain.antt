@@ -191,13 +191,13 @@ opened_plain : (Does : Doing) (file : List ℕ) (x : Effect) (opened : Result Fi
 opened_plain Does file x (Ok f) is = rewritten_plain file f.0 x is.0 is.2
 opened_plain Does file x (Err e) is = not_both x (stop_as as_it_is e) is
 
-pub edit_plain : (refusal : Option Reason) (Does : Doing) (file : List ℕ) → ArePlain (RewritesCome refusal Does as_it_is file)
-edit_plain refusal Does file [] x is = not_both x (Refused is.0) is.2
-edit_plain refusal Does file (i ∷ []) x is = elim is.1 [
+pub edit_plain : (refusal : Option Reason) (MayTake : FileEdits → Type 0) (Does : Doing) (file : List ℕ) → ArePlain (RewritesCome refusal MayTake Does as_it_is file)
+edit_plain refusal MayTake Does file [] x is = not_both x (Refused is.0) is.2
+edit_plain refusal MayTake Does file (i ∷ []) x is = elim is.1 [
   | inl made ↦ opened_plain Does file x made.0 made.2
   | inr lack ↦ not_both x Memory lack.0
 ]
-edit_plain refusal Does file (i ∷ j ∷ files) x is = absurd is
+edit_plain refusal MayTake Does file (i ∷ j ∷ files) x is = absurd is
 
 abbrev left_none : Stop Reason → Result (List Edit) (Stop Reason)
 left_none e = Err e
@@ -243,10 +243,11 @@ opened_lacks replica words file name i (Err e) opens is =
     let lost : e ≡ File = as_told e (sym (same_stop File (stop_as as_it_is e) is)) in
     file_lacks i name (subst (λ e. OpensFile None i (opened_none e)) lost opens)
 
-pub edit_lacks : (refusal : Option Reason) (replica : ℕ) (words : List (List ℕ)) (file : List ℕ) → TellsLacks (RewritesCome refusal (IsActed replica words) as_it_is file)
-edit_lacks refusal replica words file [] is = absurd (let no = same_stop File (Refused is.0) is.2 in cc)
-edit_lacks refusal replica words file (r ∷ []) is = elim is.1 [
+pub edit_lacks : (refusal : Option Reason) (MayTake : FileEdits → Type 0) (replica : ℕ) (words : List (List ℕ)) (file : List ℕ)
+    → TellsLacks (RewritesCome refusal MayTake (IsActed replica words) as_it_is file)
+edit_lacks refusal MayTake replica words file [] is = absurd (let no = same_stop File (Refused is.0) is.2 in cc)
+edit_lacks refusal MayTake replica words file (r ∷ []) is = elim is.1 [
   | inl made ↦ opened_lacks replica words file r.name r.file made.0 made.1 made.2
   | inr lack ↦ absurd (let no = same_stop File Memory lack.0 in cc)
 ]
-edit_lacks refusal replica words file (r ∷ s ∷ rs) is = absurd is
+edit_lacks refusal MayTake replica words file (r ∷ s ∷ rs) is = absurd is

@@ -6,7 +6,7 @@ use Rattle.zed_refusal.specs.declared.reason.Reason.{Reason}
 use Rattle.zed_files.specs.Rewrites.{RewritesCome, RewritesWant}
 use Rattle.zed_files.specs.Tells.{FilesCome, FilesWant}
 use Rattle.cmd_save.specs.Made.{checks, saves}
-use Rattle.cmd_edit.specs.Edited.{IsActed, no_author}
+use Rattle.cmd_edit.specs.Edited.{ActMayTake, IsActed, no_author}
 use Rattle.cmd_edit.specs.Fresh.{NewComes, NewWants}
 use Rattle.zed_program.specs.Limit.{limit_of}
 use Rattle.zed_words.specs.Commands.{Command, Save, Check, New, Edit as EditFile, Merge, Show, Play}
@@ -26,7 +26,7 @@ abbrev pub ComesOf : Command → Coming Reason
 ComesOf (Save profile out files) = FilesCome (saves (limit_of profile) out) files
 ComesOf (Check profile files) = FilesCome (checks (limit_of profile)) files
 ComesOf (New out world from name) = NewComes out world from name
-ComesOf (EditFile file replica words) = RewritesCome (no_author replica) (IsActed replica words) (λ reason. reason) file
+ComesOf (EditFile file replica words) = RewritesCome (no_author replica) (ActMayTake replica words) (IsActed replica words) (λ reason. reason) file
 ComesOf (Merge out world files) = λ before r. ⊥
 ComesOf (Show profile board files) = λ before r. ⊥
 ComesOf (Play profile board chance files) = λ before r. ⊥

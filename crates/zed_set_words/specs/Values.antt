@@ -4,6 +4,7 @@ use Rattle.std.specs.Str.{bytes_eq}
 use Rattle.std.specs.Char.{to_ascii_lowercase}
 use Rattle.zed_plaintext.specs.Digits.{digits_of}
 use Rattle.zed_types.specs.declared.names.Name.{Name}
+use Rattle.zed_types.specs.declared.stamp.Stamp.{Stamp}
 use Rattle.zed_types.specs.declared.names.TextId.{TextId}
 use Rattle.zed_types.specs.Elements.{row_of}
 use Rattle.zed_set_words.specs.declared.wishes.BoardPlace.{BoardPlace}
@@ -123,6 +124,14 @@ name_of word = do
   replica ← number_of 65535 others.0
   index ← number_of 4294967295 others.1
   Some (record { stamp = record { time = time; replica = replica }; index = index })
+
+-- a stamp: time, `.` (46), replica
+unfoldable pub stamp_of : Word → Option Stamp
+stamp_of word = do
+  parts ← cut 46 word
+  time ← number_of 281474976710655 parts.0
+  replica ← number_of 65535 parts.1
+  Some (record { time = time; replica = replica })
 
 -- a board: its name, or its number
 abbrev pub board_of : Word → Option BoardPlace

@@ -1,6 +1,6 @@
 //! Things in words: by their numbers, or by their names.
 ghost use Rattle.std.specs.Prelude.{◌≡◌};
-ghost use Rattle.zed_set_words.specs.Values.{board_of, name_of, other_of, text_of, unless_none as but_none};
+ghost use Rattle.zed_set_words.specs.Values.{board_of, name_of, other_of, stamp_of, text_of, unless_none as but_none};
 
 use crate::numerals::{index, number, short};
 use crate::thing::cut;
@@ -22,6 +22,17 @@ pub(crate) fn name(word: &str) -> Option<Name>
     let index = index(last)?;
     let stamp = Stamp { time, replica };
     Some(Name { stamp, index })
+}
+
+/// The stamp that a word writes: a time and a replica, such as `6.1`.
+#[tactic(auto, unfolding(crate::specs::Values::stamp_of))]
+pub fn stamp(word: &str) -> Option<Stamp>
+    ensures { result ≡ stamp_of word.now }
+{
+    let (time, replica) = cut(word, '.')?;
+    let time = number(time, MOST_OF_TIME)?;
+    let replica = short(replica)?;
+    Some(Stamp { time, replica })
 }
 
 pub(crate) fn board_place(word: &str) -> Option<BoardPlace>

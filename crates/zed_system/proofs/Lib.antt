@@ -1,4 +1,5 @@
 mod Covered
 mod Files
 mod Gathered
+mod Going
 mod Steps

@@ -3,3 +3,4 @@ pub mod Held
 pub mod Loss
 pub mod Names
 pub mod Steps
+pub mod Told

@@ -1,5 +1,6 @@
 -- What another file has to have so that nothing of an edit file is lost.
-use Rattle.std.specs.Prelude.{◌≡◌, ◌≢◌, ◌<◌, ◌^◌, ℕ, List, Some, Result, Err, Contains}
+use Rattle.std.specs.Prelude.{◌≡◌, ◌≢◌, ◌<◌, ◌^◌, ◌⊎◌, ℕ, Bool, false, List, Some, Result, Err, Contains, MatchBool, codes, nat_eq}
+use Rattle.std.specs.List.{starts_with}
 use Rattle.zed_op.specs.declared.op.Edit.{Edit}
 use Rattle.zed_op.specs.Set.{set_of}
 use Rattle.zed_history.specs.Finding.{edit_with}
@@ -33,3 +34,11 @@ pub record HasAll (new old : List ℕ) : Type 0 where
   pub is_file : IsEditFile world edits old
   pub is_new : IsEditFile world others new
   pub all : (e : Edit) → Contains edits e → Has (set_of others) e
+
+-- bytes begin as those of edit files do
+abbrev pub begins_as_edits : List ℕ → Bool
+begins_as_edits bytes = starts_with nat_eq bytes (codes "ZED")
+
+-- an old file needn't be kept where new bytes take its place: they are the same, or it is an edit file of which nothing is lost, or neither an edit file nor a drawing
+abbrev pub MayGo : Bool → List ℕ → List ℕ → Type 0
+MayGo is_drawing new old = (old ≡ new) ⊎ MatchBool (begins_as_edits old) (HasAll new old) (is_drawing ≡ false)

@@ -1,7 +1,7 @@
 //! How a file takes its place: whole, or not at all.
-ghost use Rattle.std.specs.Prelude.{◌≡◌, ◌⊎◌, ◌||◌, [], ◌∷◌, ◌++◌, Bool, IfSome, List, OnErr, OnOk, None, Option, is_err, option_map};
+ghost use Rattle.std.specs.Prelude.{◌≡◌, ◌⊎◌, ◌||◌, [], ◌∷◌, ◌++◌, Bool, IfSome, List, OnErr, OnOk, None, Option, false, is_err, option_map, true};
 ghost use Rattle.zed_system.specs.Held.{Held, IsUnwritten, IsWhole, StillTells, beside_of, kept_by, none_beside, renamed_by, replaced_by, seen_of, with_beside, with_empty, with_kept, with_more, with_place, with_settled, with_synced};
-ghost use Rattle.zed_system.specs.Steps.{Create, Fill, Keep, Remove, Rename, Step, Sync, SyncPlace, Went, WentInto, making, placing};
+ghost use Rattle.zed_system.specs.Steps.{Create, Fill, Keep, Remove, Rename, StopsIn, Sync, SyncPlace, Taken, Went, done, filling, making, placing, taken};
 
 use std::io;
 
@@ -23,14 +23,15 @@ pub trait Folder {
     /// Whether a step of it failed.
     ghost has_failed: { Self → Bool };
 
-    /// The steps that were asked of it, in order, or none if it doesn't say.
-    ghost steps: { Self → Option (List Step) };
+    /// The steps that it took, in order, and whether each failed; or none if it doesn't say.
+    ghost steps: { Self → Option (List Taken) };
 
     /// Makes the new file, empty, under a name that no other file has.
     fn create(&mut self) -> io::Result<()>
         ensures result { OnOk result (told self.new ≡ option_map with_empty (told self.old)) }
         ensures kept { option_map seen_of (told self.new) ≡ option_map seen_of (told self.old) }
-        ensures asked { Went (Create ∷ []) (steps self.old) (steps self.new) }
+        ensures asked { Went (taken Create (is_err result) ∷ [])
+            (steps self.old) (steps self.new) }
         ensures faults { has_failed self.new ≡ (is_err result || has_failed self.old) };
 
     /// Gives the new file its bytes.
@@ -38,14 +39,16 @@ pub trait Folder {
         ensures result { OnOk result
             (told self.new ≡ option_map (with_more bytes.now) (told self.old)) }
         ensures kept { option_map seen_of (told self.new) ≡ option_map seen_of (told self.old) }
-        ensures asked { Went (Fill bytes.now ∷ []) (steps self.old) (steps self.new) }
+        ensures asked { Went (taken (Fill bytes.now) (is_err result) ∷ [])
+            (steps self.old) (steps self.new) }
         ensures faults { has_failed self.new ≡ (is_err result || has_failed self.old) };
 
     /// Brings the new file onto the disk.
     fn sync(&mut self) -> io::Result<()>
         ensures result { OnOk result (told self.new ≡ option_map with_synced (told self.old)) }
         ensures kept { option_map seen_of (told self.new) ≡ option_map seen_of (told self.old) }
-        ensures asked { Went (Sync ∷ []) (steps self.old) (steps self.new) }
+        ensures asked { Went (taken Sync (is_err result) ∷ [])
+            (steps self.old) (steps self.new) }
         ensures faults { has_failed self.new ≡ (is_err result || has_failed self.old) };
 
     /// Gives the file in the place a second name beside it, which no file has, and brings that onto
@@ -54,7 +57,8 @@ pub trait Folder {
     fn keep(&mut self) -> io::Result<()>
         ensures result { OnOk result (told self.new ≡ option_map with_kept (told self.old)) }
         ensures kept { OnErr result (StillTells (IsUnwritten Old.Kept) (told self.old) (told self.new)) }
-        ensures asked { Went (Keep ∷ []) (steps self.old) (steps self.new) }
+        ensures asked { Went (taken Keep (is_err result) ∷ [])
+            (steps self.old) (steps self.new) }
         ensures faults { has_failed self.new ≡ (is_err result || has_failed self.old) };
 
     /// Puts the new file into the place. Before this everyone finds the old file there, and after
@@ -63,21 +67,40 @@ pub trait Folder {
         requires { IfSome (told self.old) IsWhole }
         ensures result { OnOk result (told self.new ≡ option_map with_place (told self.old)) }
         ensures kept { OnErr result (told self.new ≡ told self.old) }
-        ensures asked { Went (Rename ∷ []) (steps self.old) (steps self.new) }
+        ensures asked { Went (taken Rename (is_err result) ∷ [])
+            (steps self.old) (steps self.new) }
         ensures faults { has_failed self.new ≡ (is_err result || has_failed self.old) };
 
     /// Removes the new file, if there is one.
     fn remove(&mut self)
         ensures result { told self.new ≡ option_map none_beside (told self.old) }
-        ensures asked { Went (Remove ∷ []) (steps self.old) (steps self.new) }
+        ensures asked { Went (taken Remove false ∷ []) (steps self.old) (steps self.new) }
         ensures faults { has_failed self.new ≡ has_failed self.old };
 
     /// Brings what is in the place onto the disk.
     fn sync_place(&mut self) -> io::Result<()>
         ensures result { OnOk result (told self.new ≡ option_map with_settled (told self.old)) }
         ensures kept { OnErr result (told self.new ≡ told self.old) }
-        ensures asked { Went (SyncPlace ∷ []) (steps self.old) (steps self.new) }
+        ensures asked { Went (taken SyncPlace (is_err result) ∷ [])
+            (steps self.old) (steps self.new) }
         ensures faults { has_failed self.new ≡ (is_err result || has_failed self.old) };
+}
+
+// Gives the new file its bytes, on the disk.
+#[tactic(auto, using(crate::proofs::Steps::stops_first, crate::proofs::Steps::second_fails))]
+fn fill<F: Folder>(folder: &mut F, bytes: &[u8]) -> io::Result<()>
+    ensures result { OnOk result (F.told folder.new
+        ≡ option_map (λ h. with_synced (with_more bytes.now h)) (F.told folder.old)) }
+    ensures kept { option_map seen_of (F.told folder.new)
+        ≡ option_map seen_of (F.told folder.old) }
+    ensures asked { OnOk result
+        (Went (done (filling bytes.now)) (F.steps folder.old) (F.steps folder.new)) }
+    ensures stopped { OnErr result
+        (StopsIn (filling bytes.now) [] (F.steps folder.old) (F.steps folder.new)) }
+    ensures faults { F.has_failed folder.new ≡ (is_err result || F.has_failed folder.old) }
+{
+    folder.fill(bytes)?;
+    folder.sync()
 }
 
 // Makes the new file with all its bytes, on the disk.
@@ -86,14 +109,14 @@ fn make<F: Folder>(folder: &mut F, bytes: &[u8]) -> io::Result<()>
         ≡ option_map (λ h. with_synced (with_beside bytes.now h)) (F.told folder.old)) }
     ensures kept { option_map seen_of (F.told folder.new)
         ≡ option_map seen_of (F.told folder.old) }
-    ensures asked { OnOk result (Went (making bytes.now) (F.steps folder.old) (F.steps folder.new)) }
+    ensures asked { OnOk result
+        (Went (done (making bytes.now)) (F.steps folder.old) (F.steps folder.new)) }
     ensures stopped { OnErr result
-        (WentInto (making bytes.now) [] (F.steps folder.old) (F.steps folder.new)) }
+        (StopsIn (making bytes.now) [] (F.steps folder.old) (F.steps folder.new)) }
     ensures faults { F.has_failed folder.new ≡ (is_err result || F.has_failed folder.old) }
 {
     folder.create()?;
-    folder.fill(bytes)?;
-    folder.sync()
+    fill(folder, bytes)
 }
 
 // Makes the new file, keeps the old one where that is asked for, and puts the new one into the place.
@@ -103,9 +126,9 @@ fn take_place<F: Folder>(folder: &mut F, old: Old, bytes: &[u8]) -> io::Result<(
     ensures kept { OnErr result
         (StillTells (IsUnwritten old) (F.told folder.old) (F.told folder.new)) }
     ensures asked { OnOk result
-        (Went (placing old bytes.now) (F.steps folder.old) (F.steps folder.new)) }
+        (Went (done (placing old bytes.now)) (F.steps folder.old) (F.steps folder.new)) }
     ensures stopped { OnErr result
-        (WentInto (placing old bytes.now) [] (F.steps folder.old) (F.steps folder.new)) }
+        (StopsIn (placing old bytes.now) [] (F.steps folder.old) (F.steps folder.new)) }
     ensures faults { F.has_failed folder.new ≡ (is_err result || F.has_failed folder.old) }
 {
     make(folder, bytes)?;
@@ -132,11 +155,12 @@ pub fn replace<F: Folder>(folder: &mut F, old: Old, bytes: &[u8]) -> io::Result<
         ≡ option_map (λ h. renamed_by bytes.now (kept_by old h)) (F.told folder.old))) }
     ensures cleared { option_map beside_of (F.told folder.new)
         ≡ option_map (λ h. None) (F.told folder.old) }
-    ensures asked { OnOk result (Went (placing old bytes.now ++ SyncPlace ∷ [])
+    ensures asked { OnOk result (Went (done (placing old bytes.now ++ SyncPlace ∷ []))
         (F.steps folder.old) (F.steps folder.new)) }
     ensures stopped { OnErr result
-        (WentInto (placing old bytes.now) (Remove ∷ []) (F.steps folder.old) (F.steps folder.new)
-        ⊎ Went (placing old bytes.now ++ SyncPlace ∷ []) (F.steps folder.old) (F.steps folder.new)) }
+        (StopsIn (placing old bytes.now) (Remove ∷ []) (F.steps folder.old) (F.steps folder.new)
+        ⊎ Went (done (placing old bytes.now) ++ taken SyncPlace true ∷ [])
+        (F.steps folder.old) (F.steps folder.new)) }
     ensures faults { F.has_failed folder.new ≡ (is_err result || F.has_failed folder.old) }
 {
     match take_place(folder, old, bytes) {

@@ -1,8 +1,10 @@
 //! Whether the old file is kept when a command writes another one in its place.
+ghost use Rattle.std.specs.Prelude.{◌≡◌, ◌↔◌, IfOk, false};
+ghost use Rattle.zed_system.specs.Loss.{MayGo, begins_as_edits};
 
 use crate::reading::{Stop, read_whole};
 use crate::{FoundFile, held, is_lost};
-use std::alloc::Global;
+use std::alloc::{AllocError, Global};
 use std::fs::{self, File};
 use std::io::{self, ErrorKind, Read};
 
@@ -49,16 +51,34 @@ fn is_drawing(rt: &HostRuntime, base: Option<&str>) -> io::Result<bool> {
     }
 }
 
-// Whether something is lost where the new bytes take the place of the old ones: an edit, or a drawing. If memory is refused for the
-// answer, it counts as lost.
-fn is_loss(alloc: Global, old: &[u8], new: &[u8], is_drawing: bool) -> bool {
+// Whether these bytes begin as edit files do.
+fn are_edits(bytes: &[u8]) -> bool
+    ensures { result ≡ begins_as_edits bytes.now }
+{
+    bytes.starts_with(&EDITS)
+}
+
+// Whether something is lost where the new bytes take the place of the old ones: an edit, or a drawing.
+fn loses(alloc: Global, old: &[u8], new: &[u8], is_drawing: bool) -> Result<bool, AllocError>
+    ensures { IfOk result (λ lost. (lost ≡ false) ↔ MayGo is_drawing new.now old.now) }
+{
     if old == new {
-        return false;
+        return Ok(false);
     }
-    if old.starts_with(&EDITS) {
-        is_lost(alloc, old, new).unwrap_or(true)
+    if are_edits(old) {
+        is_lost(alloc, old, new)
     } else {
-        is_drawing
+        Ok(is_drawing)
+    }
+}
+
+// The same. If memory is refused for the answer, it counts as lost.
+fn is_loss(alloc: Global, old: &[u8], new: &[u8], is_drawing: bool) -> bool
+    ensures { result ≡ false → MayGo is_drawing new.now old.now }
+{
+    match loses(alloc, old, new, is_drawing) {
+        Ok(lost) => lost,
+        Err(_) => true,
     }
 }
 

@@ -3,12 +3,15 @@ ghost use Rattle.std.specs.Prelude.{◌≡◌, ◌≢◌, ◌≤◌, None, IfOk,
 ghost use Rattle.zed_play.specs.declared.key.Key.{Key as TheKey};
 ghost use Rattle.zzted.specs.Typing.{byte_of};
 
+use std::cell::Cell;
 use std::fs::{self, File};
 use std::io::{self, ErrorKind, Read, Write};
+use std::rc::Rc;
 use zed_link::{Link, LinkFailed, Writes};
 use zed_play::Key;
 use zed_screen::{Frame, ascii};
 use zed_session::{DeviceFailed, Keys, Screen};
+use zed_system::Ending;
 
 /// An interrupted read is made again, at most so many times.
 const TRIES: u32 = 1024;
@@ -33,6 +36,15 @@ fn read_some<R: Read>(reader: &mut R, into: &mut [u8]) -> io::Result<usize>
     Err(io::Error::from(ErrorKind::Interrupted))
 }
 
+/// The last read of some links.
+#[derive(Clone, Copy)]
+pub struct LastRead {
+    /// Which link it was, from 0.
+    pub at: usize,
+    /// How it ended.
+    pub ending: Ending,
+}
+
 /// A file to read, opened at its first read; `stdin` is standard input. Nothing can be written to
 /// it, and it doesn't say what it holds.
 #[derive(Drop)]
@@ -44,14 +56,22 @@ pub struct FileLink {
     reads: u64,
     writes: Writes,
     failures: u64,
+    at: usize,
+    last: Rc<Cell<Option<LastRead>>>,
 }
 
 impl FileLink {
-    /// The file of a name. It isn't opened yet.
+    /// The file of a name, as the link of this number among those that share `last`, where each
+    /// leaves how its last read ended. It isn't opened yet.
     ///
     /// # Errors
     /// `OutOfMemory`.
-    pub fn new(rt: HostRuntime, name: &str) -> io::Result<FileLink> {
+    pub fn new(
+        rt: HostRuntime,
+        name: &str,
+        at: usize,
+        last: Rc<Cell<Option<LastRead>>>,
+    ) -> io::Result<FileLink> {
         Ok(FileLink {
             rt,
             name: String::from_str(rt.alloc(), name)?,
@@ -60,7 +80,15 @@ impl FileLink {
             reads: 0,
             writes: Writes::NONE,
             failures: 0,
+            at,
+            last,
         })
+    }
+
+    // Leaves how a read ended.
+    fn leave(&self, ending: Ending) {
+        let at = self.at;
+        self.last.set(Some(LastRead { at, ending }));
     }
 
     // Reads from the file, unless it has given too much already.
@@ -98,6 +126,14 @@ impl FileLink {
     }
 }
 
+// How a read that failed by this error ended.
+fn ending_of(error: io::Error) -> Ending {
+    match error.kind() {
+        ErrorKind::NotFound => Ending::NoFile,
+        _ => Ending::NotRead(error),
+    }
+}
+
 impl Link for FileLink {
     ghost ends = { λ _. None };
 
@@ -114,9 +150,13 @@ impl Link for FileLink {
     fn read(&mut self, into: &mut [u8]) -> Result<usize, LinkFailed> {
         self.reads = self.reads.saturating_add(1);
         match self.read_within(into) {
-            Ok(count) => Ok(count),
-            Err(_) => {
+            Ok(count) => {
+                self.leave(Ending::Read);
+                Ok(count)
+            }
+            Err(error) => {
                 self.failures = self.failures.saturating_add(1);
+                self.leave(ending_of(error));
                 Err(LinkFailed)
             }
         }

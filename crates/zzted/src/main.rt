@@ -3,15 +3,20 @@
 
 mod devices;
 
-use devices::{FileLink, Printer, Typed};
+use devices::{FileLink, LastRead, Printer, Typed};
+use std::cell::Cell;
 use std::env;
 use std::io::{self, ErrorKind, Write};
 use std::process::ExitCode;
+use std::rc::Rc;
 use zed_link::Link;
 use zed_program::run;
 use zed_session::{Keys, Screen};
-use zed_system::SystemHost;
+use zed_system::{SystemHost, name_file, tell_file};
 use zed_words::{Command, ParseError, parse};
+
+/// The line of a refusal that is of the call of the host which failed last.
+const FILE_LINE: &[u8] = b"zzted: File\n";
 
 // The words after the program's name. They are pushed one by one: `collect` goes on after a growth that is refused, with a smaller one.
 fn words_of(rt: &HostRuntime) -> io::Result<Vec<String>> {
@@ -75,6 +80,20 @@ fn status_of(rt: &HostRuntime, error: &io::Error) -> u8 {
     status
 }
 
+// Writes a second line behind that of a refusal, which names the file that it is of: the one that was read last over a link, or that of the
+// host's last call.
+fn name_refused(rt: &HostRuntime, host: &SystemHost, linked: &[&str], last: Option<LastRead>) {
+    let line = host.complaint();
+    match last {
+        Some(read) if !line.is_empty() && line != FILE_LINE => {
+            if let Some(name) = linked.get(read.at) {
+                tell_file(rt, "", name.as_bytes(), read.ending);
+            }
+        }
+        _ => name_file(rt, host, "", FILE_LINE),
+    }
+}
+
 // Carries out what the words ask for, over real files and streams.
 fn carry_out(rt: HostRuntime, words: &[String]) -> io::Result<u8> {
     let alloc = rt.alloc();
@@ -82,8 +101,9 @@ fn carry_out(rt: HostRuntime, words: &[String]) -> io::Result<u8> {
     let mut host = SystemHost::new(rt);
     admit(&mut host, way, name, &linked)?;
     let mut links: Vec<Box<dyn Link>> = Vec::new(alloc);
-    for name in linked {
-        let link = Box::new(alloc, FileLink::new(rt, name)?)?;
+    let last = Rc::new(alloc, Cell::new(None))?;
+    for (at, name) in linked.iter().enumerate() {
+        let link = Box::new(alloc, FileLink::new(rt, name, at, Rc::clone(&last)?)?)?;
         if links.push(link).is_err() {
             return Err(io::Error::from(ErrorKind::OutOfMemory));
         }
@@ -98,6 +118,9 @@ fn carry_out(rt: HostRuntime, words: &[String]) -> io::Result<u8> {
         screen.as_mut(),
         keys.as_mut(),
     );
+    if status == 1 {
+        name_refused(&rt, &host, &linked, last.get());
+    }
     host.tell_kept();
     Ok(status)
 }

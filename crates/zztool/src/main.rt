@@ -2,18 +2,19 @@
 #![tactic(auto)]
 
 mod devices;
-mod naming;
 
 use crate::devices::{Display, Keyboard, SystemChance};
-use crate::naming::name_file;
 use std::alloc::{AllocError, Global};
 use std::env;
 use std::io::{self, ErrorKind, Write};
 use std::process::ExitCode;
-use zed_system::SystemHost;
+use zed_system::{SystemHost, name_file};
 use zed_terminal::{Console, Typist};
 use zed_tool::run;
 use zed_tool_words::{Command, ParseError, parse};
+
+/// The line of a refusal that is of the call which failed last.
+const FILE_LINE: &[u8] = b"zztool: File\n";
 
 // The words after the program's name. They are pushed one by one: `collect` goes on after a growth that is refused, with a smaller one.
 fn words_of(rt: &HostRuntime) -> io::Result<Vec<String>> {
@@ -125,7 +126,7 @@ fn carry_out(rt: HostRuntime, words: &[String]) -> io::Result<u8> {
     let mut console = Console::new(alloc, Display::new(rt), typist, SystemChance::new(rt));
     let status = run(alloc, words, &mut host, &mut console);
     if status == 1 {
-        name_file(&rt, &host);
+        name_file(&rt, &host, "zztool: ", FILE_LINE);
     }
     host.tell_kept();
     Ok(status)

@@ -14,4 +14,4 @@ returns-in-Err-clause-stands g c = λ first files is.
     let s = c.args.self.now in
     let more = subst (λ a. is_some (next_file (g.A.Action.refuses a) s.file.now s.document) ≡ true) is.1 c.requires.next in
     let here = subst (λ f. is_some (next_file (g.A.Action.refuses first.action) f.now s.document) ≡ true) is.0 more in
-    rw c.stopped.ensures (not_held (g.A.Action.refuses first.action) (g.A.Action.Does first.action) g.A.Action.refusal_for first.file.now files c.args.file s.document c.in-Err.stop here is.2 c.in-Err.ensures.opened)
+    rw c.stopped.ensures (not_held (g.A.Action.refuses first.action) (g.A.Action.MayTake first.action) (g.A.Action.Does first.action) g.A.Action.refusal_for first.file.now files c.args.file s.document c.in-Err.stop here is.2 c.in-Err.ensures.opened)

@@ -11,6 +11,6 @@ telling NoFile name cause = name ++ (codes ": no such file" ++ 10 ∷ [])
 telling (NotRead error) name cause = name ++ (codes " can't be read: " ++ (cause ++ 10 ∷ []))
 telling (NotWritten error) name cause = name ++ (codes " can't be written: " ++ (cause ++ 10 ∷ []))
 
--- its line
-abbrev pub line_of : Ending → List ℕ → List ℕ → List ℕ
-line_of ending name cause = codes "zztool: " ++ telling ending name cause
+-- its line, behind these words
+abbrev pub line_of : List ℕ → Ending → List ℕ → List ℕ → List ℕ
+line_of front ending name cause = front ++ telling ending name cause
