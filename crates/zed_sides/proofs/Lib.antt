@@ -1,0 +1,3 @@
+pub mod Latests
+pub mod Overriding
+pub mod Hiding

@@ -1,0 +1,4 @@
+pub mod Laws
+pub mod Overridden
+pub mod Readings
+pub mod Sides
