@@ -85,7 +85,7 @@ as_user() {
     fi
 }
 
-# Prints a complaint of zztool without its second line, if that names a file of the command's words, the base of one, or a stream. Any other
+# Prints a complaint without its second line, if that names a file of the command's words, the base of one, or a stream. Any other
 # line stays, for the row to refuse; rows of their own compare second lines whole.
 refusal_in() {
     local lines word
@@ -93,9 +93,9 @@ refusal_in() {
     shift
     if [ "${#lines[@]}" -eq 2 ]; then
         for word in "$@" "${@/%/.base}" stdin stdout; do
-            case ${lines[1]} in
-                "zztool: the last file read was $word" | "zztool: the last file written was $word" | "zztool: $word: no such file" \
-                    | "zztool: $word can't be read: "* | "zztool: $word can't be written: "*)
+            case ${lines[1]#zztool: } in
+                "the last file read was $word" | "the last file written was $word" | "$word: no such file" \
+                    | "$word can't be read: "* | "$word can't be written: "*)
                     unset 'lines[1]'
                     break
                     ;;

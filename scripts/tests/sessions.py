@@ -12,6 +12,8 @@ import re
 import subprocess
 import sys
 
+from naming import refusal_in
+
 KEYS = "wait north south west east shoot_north shoot_south shoot_west shoot_east".split()
 WHOLE, REFUSED, DEVICE, TRIED = 1, 2, 4, 8
 # How it came out, by the first byte of a line that says what is seen then.
@@ -498,7 +500,8 @@ def run_files(report, zzted, room):
 
         def runs(*words):
             ran = subprocess.run([zzted, *words], stdin=subprocess.DEVNULL, capture_output=True, timeout=600, cwd=folder)
-            return lines_ran(ran.returncode, ran.stdout, ran.stderr)
+            told = refusal_in(ran.stderr.decode("latin-1"), words).encode("latin-1")
+            return lines_ran(ran.returncode, ran.stdout, told)
 
         for row in section.rows:
             if row.word == "file":
@@ -522,7 +525,8 @@ def judgement_of(lines):
     """Whether a command took a file of one edit, or what it told of that, as a link tells it."""
     if lines[0] == "status 0":
         return "fits"
-    name, *cause = lines[-1].removeprefix("complains zzted: ").split(" ")
+    told = next(line for line in lines if line.startswith("complains zzted: "))
+    name, *cause = told.removeprefix("complains zzted: ").split(" ")
     return f"{name}({cause[0]})" if cause else name
 
 
