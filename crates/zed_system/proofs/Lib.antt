@@ -1,5 +1,7 @@
+mod Compared
 mod Covered
 mod Files
 mod Gathered
 mod Going
+mod Names
 mod Steps

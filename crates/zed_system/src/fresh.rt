@@ -4,6 +4,7 @@ ghost use Rattle.std.specs.Prelude.{◌≡◌, ◌||◌, None, is_err};
 use crate::folder::{Folder, Old, replace};
 use crate::keeping::{KeptName, keep};
 use crate::named::{FoundFile, is_at};
+use crate::same::has_already;
 use std::fs::{self, File, Metadata, OpenOptions, Permissions};
 use std::io::{self, ErrorKind, Write};
 use std::os::unix::fs::{MetadataExt, OpenOptionsExt, PermissionsExt, fchown};
@@ -235,8 +236,17 @@ fn folder_at<'a>(
     })
 }
 
-/// Writes the file of a name that leads to a place. A file is replaced whole or stays as it was. A
-/// pipe or a terminal is written in place.
+// Brings a file that is left as it is onto the disk. A new file is made beside it and removed again: only so it is known that one may be.
+fn settle(folder: &mut RealFolder<'_>, file: &File) -> io::Result<()> {
+    folder.create()?;
+    folder.remove();
+    file.sync_all()?;
+    folder.sync_place()
+}
+
+/// Writes the file of a name that leads to a place. A file is replaced whole or stays as it was. If
+/// it has these bytes already, it is only brought onto the disk. A pipe or a terminal is written in
+/// place.
 ///
 /// # Errors
 /// A device failed, or the place can't be written.
@@ -256,11 +266,12 @@ pub fn write<'a>(
     let found = found?;
     // A file that has no name any more can't be replaced.
     fs::symlink_metadata(rt, found.path())?;
-    replace(
-        &mut folder_at(rt, found, Some(old), None)?,
-        Old::Dropped,
-        bytes,
-    )
+    let is_there = has_already(rt, found, &old, bytes);
+    let mut folder = folder_at(rt, found, Some(old), None)?;
+    if is_there {
+        return settle(&mut folder, &file);
+    }
+    replace(&mut folder, Old::Dropped, bytes)
 }
 
 /// Writes the file of a name as `write` does, and keeps the old file, which is open, beside the new

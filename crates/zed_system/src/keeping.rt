@@ -1,9 +1,12 @@
 //! Keeping the old file when it is replaced: beside the new one, under a name that no file has.
+ghost use Rattle.std.specs.Prelude.{◌≡◌, ◌++◌, IfOk, OnOk, codes};
+ghost use Rattle.zed_system.specs.Names.{IsChosen, kept_path};
 
 use crate::fresh::{OWN, liken, make_fresh};
 use crate::named::{FoundFile, unless_missing};
 use std::fs::{self, File};
 use std::io::{self, ErrorKind, Read, Seek, Write};
+use std::marker::Model;
 
 /// Most old files that are kept of one.
 const MOST: u32 = 999;
@@ -29,12 +32,23 @@ pub struct KeptName {
     count: u32,
 }
 
+impl Model for KeptName {
+    ghost use Rattle.std.specs.Prelude.{string_bytes};
+    ghost use Rattle.zed_system.specs.Names as names;
+
+    ghost Value = { names.Kept };
+
+    ghost view = { λ k. record { first = string_bytes k.front; chosen = string_bytes k.text } };
+}
+
 impl KeptName {
     /// Takes all memory that keeping a file of this place needs.
     ///
     /// # Errors
     /// The folder can't be listed, or memory is refused.
-    pub fn of(rt: &HostRuntime, found: &FoundFile) -> io::Result<KeptName> {
+    pub fn of(rt: &HostRuntime, found: &FoundFile) -> io::Result<KeptName>
+        ensures { IfOk result (IsChosen (found.now.path ++ codes "~")) }
+    {
         let front = format!(in rt.alloc(); "{}~", found.path())?;
         let mut text = String::from_str(rt.alloc(), front.as_str())?;
         text.reserve(DIGITS)?;
@@ -43,12 +57,17 @@ impl KeptName {
     }
 
     /// The path of the kept file.
-    pub fn as_str(&self) -> &str {
+    pub fn as_str(&self) -> &str
+        ensures { result.now ≡ self.now.chosen }
+    {
         self.text.as_str()
     }
 
     // Makes it the name of this number.
-    fn number(&mut self, number: u32) -> io::Result<()> {
+    fn number(&mut self, number: u32) -> io::Result<()>
+        ensures first { self.new.first ≡ self.old.first }
+        ensures chosen { OnOk result (self.new.chosen ≡ kept_path self.old.first number) }
+    {
         self.text.clear();
         self.text.push_str(self.front.as_str())?;
         if number > 1 {
@@ -133,7 +152,10 @@ fn too_many() -> io::Error {
 
 // Finds the name under which an old file is kept: that of a file with the same bytes, or else the first that no file has. Tells whether
 // it is kept there already.
-fn choose(rt: &HostRuntime, kept: &mut KeptName, old: &mut File) -> io::Result<bool> {
+fn choose(rt: &HostRuntime, kept: &mut KeptName, old: &mut File) -> io::Result<bool>
+    ensures first { kept.new.first ≡ kept.old.first }
+    ensures chosen { OnOk result (IsChosen kept.old.first kept.new) }
+{
     let mut free = None;
     let mut met = 0u32;
     for number in 1..=MOST {
@@ -196,7 +218,9 @@ pub(crate) fn keep(
     found: &FoundFile,
     kept: &mut KeptName,
     old: &mut File,
-) -> io::Result<()> {
+) -> io::Result<()>
+    ensures { OnOk result (IsChosen kept.old.first kept.new) }
+{
     for _ in 0..TRIES {
         if choose(rt, kept, old)? {
             return Ok(());

@@ -16,6 +16,7 @@ mod naming;
 mod old;
 mod place;
 mod reading;
+mod same;
 
 pub use folder::{Folder, Old, replace};
 pub use fresh::{write, write_keeping};

@@ -1,10 +1,13 @@
 //! The place of a file that a command writes: its path after symbolic links, its folder, the name
 //! of the new file that takes its place.
-ghost use Rattle.std.specs.Io.{StartsWith};
+ghost use Rattle.std.specs.Prelude.{◌≡◌, ◌++◌, IfOk, IfSome, None, Some, string_bytes};
+ghost use Rattle.zed_system.specs.Names.{IsNewIn, IsPlace, IsSplit, in_front, new_name};
 
 use crate::leftover::{BEGINNING, clear, is_new_name};
+use std::alloc::{AllocError, Global};
 use std::fs::{self, File, Metadata};
-use std::io::{self, ErrorKind};
+use std::io::{self, ErrorKind, Write};
+use std::marker::Model;
 use std::os::unix::fs::MetadataExt;
 use std::process;
 use std::time::{SystemTime, UNIX_EPOCH};
@@ -32,35 +35,52 @@ pub struct FoundFile {
     spare: String,
 }
 
+impl Model for FoundFile {
+    ghost use Rattle.std.specs.Prelude.{string_bytes};
+    ghost use Rattle.zed_system.specs.Names as names;
+
+    ghost Value = { names.Found };
+
+    ghost view = { λ f. record { path = string_bytes f.path; folder = string_bytes f.folder; fresh = string_bytes f.fresh; spare = string_bytes f.spare } };
+}
+
 impl FoundFile {
     /// The file itself.
-    pub fn path(&self) -> &str {
+    pub fn path(&self) -> &str
+        ensures { result.now ≡ self.now.path }
+    {
         self.path.as_str()
     }
 
     /// Its folder.
-    pub fn folder(&self) -> &str {
+    pub fn folder(&self) -> &str
+        ensures { result.now ≡ self.now.folder }
+    {
         self.folder.as_str()
     }
 
     /// The new file beside it: its name has the program, the process and the time.
-    pub fn fresh(&self) -> &str {
+    pub fn fresh(&self) -> &str
+        ensures { result.now ≡ self.now.fresh }
+    {
         self.fresh.as_str()
     }
 
     /// A second new file beside it, for a copy of the file.
-    pub fn spare(&self) -> &str {
+    pub fn spare(&self) -> &str
+        ensures { result.now ≡ self.now.spare }
+    {
         self.spare.as_str()
     }
 }
 
-// The folder of a path, with its last slash; nothing for the folder that the program runs in.
-fn folder_of(path: &str) -> &str
-    ensures { StartsWith path.now result.now }
+// A path, cut behind its last slash: its folder, or nothing for the one that the program runs in; and a name.
+fn split(path: &str) -> (&str, &str)
+    ensures { IsSplit path.now result.0.now result.1.now }
 {
-    match path.rsplit_once('/') {
-        Some((_, name)) => path.strip_suffix(name).unwrap_or(""),
-        None => "",
+    match path.rfind('/') {
+        Some(slash) => path.split_at(slash + 1),
+        None => ("", path),
     }
 }
 
@@ -73,7 +93,8 @@ fn target_of(rt: &HostRuntime, link: &str) -> io::Result<String> {
     if text.starts_with('/') {
         return Ok(String::from_str(rt.alloc(), text)?);
     }
-    let mut path = String::from_str(rt.alloc(), folder_of(link))?;
+    let (folder, _) = split(link);
+    let mut path = String::from_str(rt.alloc(), folder)?;
     path.push_str(text)?;
     Ok(path)
 }
@@ -98,29 +119,73 @@ fn followed(rt: &HostRuntime, name: &str) -> io::Result<String> {
     Err(io::Error::from(ErrorKind::FilesystemLoop))
 }
 
-// The name of a new file in a folder.
-fn fresh_in(rt: &HostRuntime, folder: &str) -> io::Result<String> {
+// A path in a folder, whose name has a process and a time.
+fn numbered(
+    alloc: Global,
+    folder: &str,
+    process: u32,
+    seconds: u64,
+    rest: u32,
+) -> Result<String, AllocError>
+    ensures { IfOk result
+        (λ path. string_bytes path ≡ folder.now ++ new_name process seconds rest) }
+{
+    let mut path = String::from_str(alloc, folder)?;
+    path.push_str(BEGINNING)?;
+    write!(path, "{process}-{seconds}-{rest}")?;
+    Ok(path)
+}
+
+// The same: it is one of a new file.
+fn fresh_path(
+    alloc: Global,
+    folder: &str,
+    process: u32,
+    seconds: u64,
+    rest: u32,
+) -> Result<String, AllocError>
+    ensures { IfOk result (λ path. IsNewIn folder.now (string_bytes path)) }
+{
+    numbered(alloc, folder, process, seconds, rest)
+}
+
+// The path of a new file in a folder.
+fn fresh_in(rt: &HostRuntime, folder: &str) -> io::Result<String>
+    ensures { IfOk result (λ path. IsNewIn folder.now (string_bytes path)) }
+{
     let process = process::id(rt.process());
     let time = match SystemTime::now(rt)?.duration_since(UNIX_EPOCH) {
         Ok(time) => time,
         Err(_) => return Err(io::Error::from(ErrorKind::InvalidData)),
     };
-    let seconds = time.as_secs();
-    let rest = time.subsec_nanos();
-    let path = format!(in rt.alloc(); "{folder}{BEGINNING}{process}-{seconds}-{rest}")?;
+    let path = fresh_path(
+        rt.alloc(),
+        folder,
+        process,
+        time.as_secs(),
+        time.subsec_nanos(),
+    )?;
     Ok(path)
 }
 
+// A folder as it stands in front of a name.
+fn in_front(folder: &str) -> &str
+    ensures { result.now ≡ in_front folder.now }
+{
+    if folder.is_empty() { "./" } else { folder }
+}
+
 // Finds where a name leads, and clears what ended processes left there.
-fn find(rt: &HostRuntime, name: &str) -> io::Result<FoundFile> {
+fn find(rt: &HostRuntime, name: &str) -> io::Result<FoundFile>
+    ensures { IfOk result IsPlace }
+{
     let path = followed(rt, name)?;
-    let folder = folder_of(path.as_str());
-    let file = path.as_str().strip_prefix(folder).unwrap_or("");
+    let (folder, file) = split(path.as_str());
     if is_new_name(file.as_bytes()) {
         // Such a file would be taken for what an ended process left.
         return Err(io::Error::from(ErrorKind::InvalidFilename));
     }
-    let folder = String::from_str(rt.alloc(), if folder.is_empty() { "./" } else { folder })?;
+    let folder = String::from_str(rt.alloc(), in_front(folder))?;
     clear(rt, folder.as_str())?;
     let fresh = fresh_in(rt, folder.as_str())?;
     let spare = format!(in rt.alloc(); "{fresh}-0")?;
@@ -132,13 +197,25 @@ fn find(rt: &HostRuntime, name: &str) -> io::Result<FoundFile> {
     })
 }
 
+impl Model for NamedFile {
+    ghost use Rattle.std.specs.Prelude.{string_bytes};
+    ghost use Rattle.zed_system.specs.Names as names;
+
+    ghost Value = { names.Named };
+
+    ghost view = { λ f. record { name = string_bytes f.name; found = f.found } };
+}
+
 impl NamedFile {
     /// Finds the place of a name, and takes all memory that writing there needs.
     ///
     /// # Errors
     /// Only `OutOfMemory`. If a device fails, the place is unknown, and only a device can be
     /// written there.
-    pub fn of(rt: &HostRuntime, name: &str) -> io::Result<NamedFile> {
+    pub fn of(rt: &HostRuntime, name: &str) -> io::Result<NamedFile>
+        ensures name { IfOk result (λ file. file.name ≡ name.now) }
+        ensures place { IfOk result (λ file. IfSome file.found IsPlace) }
+    {
         let found = match find(rt, name) {
             Ok(found) => Some(found),
             Err(error) if error.kind() == ErrorKind::OutOfMemory => return Err(error),
@@ -170,7 +247,10 @@ impl NamedFile {
     }
 
     /// A place of the same name that is unknown.
-    pub fn lost(self) -> NamedFile {
+    pub fn lost(self) -> NamedFile
+        ensures name { result.name ≡ self.name }
+        ensures found { result.found ≡ None }
+    {
         let NamedFile { name, found: _ } = self;
         NamedFile { name, found: None }
     }
@@ -179,7 +259,9 @@ impl NamedFile {
     ///
     /// # Errors
     /// The place is unknown. This isn't the error of a file that isn't there.
-    pub fn found(&self) -> io::Result<&FoundFile> {
+    pub fn found(&self) -> io::Result<&FoundFile>
+        ensures { IfOk result (λ found. self.now.found ≡ Some found.now) }
+    {
         match &self.found {
             Some(found) => Ok(found),
             None => Err(io::Error::from(ErrorKind::Other)),
