@@ -1,0 +1,5 @@
+pub mod Ends
+pub mod Shown
+pub mod Steps
+pub mod TakenBack
+pub mod UndoSteps

@@ -1,0 +1,33 @@
+use Rattle.std.proofs.Common.{refl}
+use Rattle.cmd_take.proofs.Steps.{comes_now}
+use Rattle.cmd_undo.specs.Undoing.{meaning_of}
+use Rattle.cmd_undo.proofs.UndoSteps.{asks_yet, ends_done, none_for_no_author}
+use Rattle.cmd_undo.proofs.undo.UndoCommand.finish.Goals as goal
+
+pub returns-in-Begun : goal.returns-in-Begun
+returns-in-Begun c = record {
+  comes = λ first files stands.
+      let s = c.args.self.now in
+      comes_now files _ _ _ _ _ stands.1 (none_for_no_author s.file.now s.manner s.replica (meaning_of s.source) s.stage c.in-Begun.ensures.value c.requires.next);
+}
+
+pub returns-in-Done : goal.returns-in-Done
+returns-in-Done c = record {
+  comes = λ first files stands.
+      let s = c.args.self.now in
+      comes_now files _ _ _ _ _ stands.1 (ends_done s.file.now s.manner s.replica (meaning_of s.source) s.stage c.in-Done.effect c.in-Done.ensures.value);
+}
+
+pub returns-in-Opened : goal.returns-in-Opened
+returns-in-Opened c = record {
+  comes = λ first files stands.
+      let s = c.args.self.now in
+      absurd (asks_yet s.file.now s.replica (meaning_of s.source) _ s.stage _ c.in-Opened.ensures.value refl c.requires.next);
+}
+
+pub returns : goal.returns
+returns c = record {
+  comes = λ first files stands.
+      let s = c.args.self.now in
+      absurd (asks_yet s.file.now s.replica (meaning_of s.source) _ s.stage _ c.in-Newer.ensures.value refl c.requires.next);
+}

@@ -1,0 +1,4 @@
+pub mod Declining
+pub mod Laws
+pub mod Stages
+pub mod Undoing

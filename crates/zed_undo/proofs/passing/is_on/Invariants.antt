@@ -1,0 +1,10 @@
+use Rattle.std.proofs.Common.{◌≡◌, ◌&&◌, drop}
+use Rattle.std.specs.List.{list_any}
+use Rattle.zed_types.specs.Names.{same_board}
+use Rattle.zed_undo.specs.Passing.{is_of_board}
+use Rattle.zed_undo.proofs.passing.is_on.Given as goal
+
+-- the board is sought among the rest
+abbrev pub invariant-loop-i : goal.invariant-loop-i
+invariant-loop-i l =
+    list_any (λ x. same_board x.id l.board && is_of_board l.thing x) (drop l.i l.view.boards) ≡ list_any (λ x. same_board x.id l.board && is_of_board l.thing x) l.view.boards

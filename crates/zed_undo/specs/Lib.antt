@@ -1,0 +1,4 @@
+pub mod Choosing
+pub mod Leaving
+pub mod Passing
+pub mod Sought
