@@ -29,8 +29,17 @@ def is_so(what, told, wanted):
         print(f"drawing: FAILED: {what}: {str(told)[:300]}, and not {str(wanted)[:300]}")
 
 
+# the note of the last command that was carried out
+note = ""
+
+
 def run(program, *words):
+    """The status and what was printed; of a refusal also its lines."""
+    global note
     ran = subprocess.run([program, *map(str, words)], stdin=subprocess.DEVNULL, capture_output=True, text=True, cwd=ROOM)
+    if ran.returncode == 0:
+        note = ran.stderr
+        return f"0 {ran.stdout}".strip()
     return f"{ran.returncode} {ran.stdout}{refusal_in(ran.stderr, words)}".strip()
 
 
@@ -275,6 +284,39 @@ def shapes():
     ]
 
 
+# what is noted of some of them, by the base's numbers and names
+NOTES = {
+    "nothing": "",
+    "a cell": "",
+    "a pattern": "",
+    "a stat at the end": 'board 1 "Hall": 1 cell, 1 stat\n',
+    "a stat less": 'board 1 "Hall": 1 cell, 1 stat\n',
+    "no stats": 'board 1 "Hall": 0 cells, 6 stats\n',
+    "a stat that moved": 'board 1 "Hall": 2 cells, 1 stat\n',
+    "a hundred and forty stats more": 'board 1 "Hall": 0 cells, 140 stats\n',
+    "a share changed": 'board 1 "Hall": 0 cells, 2 programs\n',
+    "a share more": 'board 1 "Hall": 0 cells, 1 program\n',
+    "a board at the end": 'board "New" added\n',
+    "a board in the middle": 'board 2 "Cave": 0 cells, 1 property\nboard 3 "Tower": 0 cells, 1 property\nboard "New" added\n',
+    "a board less": 'board 2 "Cave" removed\n',
+    "the first board less": 'board 1 "Hall" removed\n',
+    "boards turned round": 'board 1 "Hall": 0 cells, 1 property\nboard 2 "Cave": 0 cells, 1 property\n',
+    "one board": 'board 1 "Hall" removed\nboard 2 "Cave" removed\nboard 3 "Tower" removed\n',
+    "a hundred boards beside the title": "".join(f'board "Room {n}" added\n' for n in range(97)),
+    "boards renamed": "".join(f'board {n} "{name}": 0 cells, 1 property\n' for n, name in enumerate(["Hall", "Cave", "Tower"], 1)),
+    "a board renamed, and another less": 'board 1 "Hall": 0 cells, 1 property\nboard 2 "Cave" removed\n',
+}
+
+
+def note_of_register(path):
+    """What is noted of one of REGISTERS."""
+    words = path.split(".")
+    if words[0] != "board":
+        return "world: 1 register\n"
+    number = int(words[1])
+    return f'board {number} "{["Title", "Hall", "Cave", "Tower"][number]}": 0 cells, 1 {"stat" if "stat" in words else "property"}\n'
+
+
 def move_player(board):
     board.put(5, 5, (0, 0))
     board.put(7, 6, (4, 0x1F))
@@ -285,9 +327,15 @@ def move_player(board):
 
 
 def counts(said):
-    """The counts of `<n> taken, <m> edits`."""
+    """The counts of `<n> taken, <m> edits: FIRST to LAST`."""
     words = said.split()
-    return (int(words[1]), int(words[3])) if len(words) == 5 and words[0] == "0" and words[2] == "taken," else said
+    return (int(words[1]), int(words[3])) if len(words) > 4 and words[0] == "0" and words[2] == "taken," else said
+
+
+def made_by(replica, first, made, edits):
+    """What is printed of so many edits of an author, of which there are so many then, one time after the other from a first one on."""
+    stamps = {0: "", 1: f": {first}.{replica}"}.get(made, f": {first}.{replica} to {first + made - 1}.{replica}")
+    return f"0 {made} taken, {edits} edits{stamps}"
 
 
 # boards are found by their names, so the cells of these are drawn anew
@@ -312,7 +360,11 @@ def others_stay(what, world, hall, twin):
                 is_so(f"{what}: the others' line", then.program, b"#lock\r" + twin.program)
 
 
-def draws(what, change_it, wanted=None, rubbish=0, longest=255, spell=lambda data: data, beside=others_stay):
+# so many boards go in these that taking them has to be forced
+FORCED = {"one board": 3}
+
+
+def draws(what, change_it, wanted=None, rubbish=0, longest=255, spell=lambda data: data, beside=others_stay, noted=None, options=()):
     """Opens a world, changes it, has it taken beside what others did, and looks at all that comes of it. `spell` spells the world otherwise."""
     for name in ("mine.zed", "mine.zzt", "mine.zzt.base", "mine.zzt.base~", "mine.zed~"):
         if os.path.exists(at(name)):
@@ -327,13 +379,21 @@ def draws(what, change_it, wanted=None, rubbish=0, longest=255, spell=lambda dat
     put("mine.zzt", spell(zzt.write(world, rubbish, longest)))
     shutil.copy(at("others.zed"), at("mine.zed"))
     before = written("mine.zed"), written("mine.zzt.base")
-    told = counts(zztool("take", "mine.zed", 1, "mine.zzt"))
+    if what in FORCED:
+        refuses(f"{what}: without force", SLIP.format(FORCED[what]), "take", "mine.zed", 1, "mine.zzt")
+        options = ("--force",)
+    said = zztool("take", *options, "mine.zed", 1, "mine.zzt")
+    told = counts(said)
     is_so(f"{what}: take", isinstance(told, tuple), True)
     if not isinstance(told, tuple):
         print(f"    {told}")
         return
     made, there = told
     is_so(f"{what}: edits of FILE", there, made + 5)
+    # their times are behind those of the five edits of FILE
+    is_so(f"{what}: the stamps", said, made_by(1, 6, made, there))
+    if noted is not None:
+        is_so(f"{what}: the note", note, noted)
     if wanted is not None:
         is_so(f"{what}: edits made", made, wanted)
     is_so(f"{what}: the base's world", zzt.differences(world_of("mine.zzt.base"), zzt.normal(world)), "nothing")
@@ -583,7 +643,7 @@ def two_authors():
     is_so("my world", zzted("save", "--big", "my.zzt", "mine.zed")[:2], "0 ")
     # the base is written too
     shutil.copy(at("start.zed"), at("before.zed"))
-    is_so("over theirs", zztool("take", "--base", "before.zed", "their.zed", 3, "my.zzt"), "0 1 taken, 5 edits")
+    is_so("over theirs", zztool("take", "--base", "before.zed", "their.zed", 3, "my.zzt"), "0 1 taken, 5 edits: 5.3")
     seen = world_of("their.zed")
     is_so("both are there", (seen.boards[1].at(3, 3), seen.boards[1].at(4, 4)), ((21, 1), (20, 2)))
 
@@ -666,6 +726,54 @@ def refused():
     is_so("opened again, as another editor spelled it", zztool("open", "mine.zed", "mine.zzt")[:2], "0 ")
 
 
+SLIP = "TakesAway {}\nzztool: take --force takes it all the same"
+
+
+def takes_away():
+    """Where more than half of the boards beside the title are gone, that is refused, behind all else, unless it is forced."""
+    def opens(boards, name=b"B%d"):
+        world = World(boards=[Board(name=b"T", stats=[Stat(1, 1)])] + [Board(name=name % n, stats=[Stat(1, 1)]) for n in range(1, boards + 1)])
+        put("new.zzt", zzt.write(world))
+        is_so("a new world", zzted("new", "mine.zed", 7, "--from", "new.zzt")[:2], "0 ")
+        is_so("open", zztool("open", "--force", "mine.zed", "mine.zzt")[:2], "0 ")
+        return zzt.read(bytes_of("mine.zzt"))
+
+    for boards, gone in [(1, 1), (2, 1), (2, 2), (3, 1), (3, 2), (4, 2), (4, 3), (5, 2), (5, 3), (100, 50), (100, 51), (100, 100)]:
+        world = opens(boards)
+        world.boards = world.boards[: boards + 1 - gone]
+        drawn = zzt.write(world)
+        lines = "".join(f'board {n} "B{n}" removed\n' for n in range(boards + 1 - gone, boards + 1))
+        if gone > boards // 2:
+            refuses(f"{gone} boards of {boards}", SLIP.format(gone), "take", "mine.zed", 1, "mine.zzt", data=drawn)
+            is_so(f"{gone} boards of {boards}, forced", zztool("take", "--force", "mine.zed", 1, "mine.zzt"), made_by(1, 2, gone, gone + 1))
+        else:
+            put("mine.zzt", drawn)
+            is_so(f"{gone} boards of {boards}", zztool("take", "mine.zed", 1, "mine.zzt"), made_by(1, 2, gone, gone + 1))
+        is_so(f"{gone} boards of {boards}: the note", note, lines)
+        is_so(f"{gone} boards of {boards}: once more", (zztool("take", "mine.zed", 1, "mine.zzt"), note), (made_by(1, 2, 0, gone + 1), ""))
+    # names that don't print, by the numbers that the boards had
+    world = opens(4, b'"\r\x07%d')
+    del world.boards[2]
+    world.boards[3].message = b"new"
+    put("mine.zzt", zzt.write(world))
+    is_so("names that don't print", zztool("take", "mine.zed", 1, "mine.zzt"), made_by(1, 2, 2, 3))
+    is_so("their note", note, 'board 2 "\\"\\r\\x072" removed\nboard 4 "\\"\\r\\x074": 0 cells, 1 property\n')
+    # all other refusals come first; FILE is its own base, and one with another is looked at by that
+    world = opens(3)
+    shutil.copy(at("mine.zed"), at("spent.zed"))
+    with_late_edit("spent.zed", LAST_TIME)
+    world.boards = world.boards[:2]
+    put("mine.zzt", zzt.write(world))
+    refuses("times before boards", "ClockSpent", "take", "spent.zed", 1, "mine.zzt")
+    is_so("a base with one board", zzted("edit", "mine.zzt.base", 1, "board-remove", 3)[:2], "0 ")
+    is_so("one board of two that the base has", zztool("take", "mine.zed", 1, "mine.zzt")[:9], "0 1 taken")
+    is_so("its note", note, 'board 2 "B2" removed\n')
+    world.boards = world.boards[:1]
+    put("mine.zzt", zzt.write(world))
+    refuses("the last board", SLIP.format(1), "take", "mine.zed", 1, "mine.zzt")
+    is_so("set aside", zztool("take", "--force", "mine.zed", 1, "mine.zzt")[:9], "0 1 taken")
+
+
 LAST_TIME = 2**48 - 1
 
 
@@ -692,7 +800,7 @@ def limits():
     refuses("too few times are left", "ClockSpent", "take", "last.zed", 1, "mine.zzt", data=zzt.write(drawn))
     drawn.boards[1].put(35, 3, (0, 0))
     put("mine.zzt", zzt.write(drawn))
-    is_so("as many times as are needed", zztool("take", "last.zed", 1, "mine.zzt"), "0 1 taken, 5 edits")
+    is_so("as many times as are needed", zztool("take", "last.zed", 1, "mine.zzt"), f"0 1 taken, 5 edits: {LAST_TIME}.1")
     # a world that is read, but is longer written again: a run of 256 is two
     is_so("open", zztool("open", "--force", "mine.zed", "mine.zzt")[:2], "0 ")
     over = zzt.read(good)
@@ -756,11 +864,12 @@ def main():
     prepare()
     for path, value in REGISTERS:
         # an editor leaves rubbish in unused bytes, and writes runs of its own length
-        draws(path, lambda world, p=path, v=value: change(world, p, v), 1, rubbish=99, longest=60)
+        draws(path, lambda world, p=path, v=value: change(world, p, v), 1, rubbish=99, longest=60, noted=note_of_register(path))
     for what, program, wanted in programs():
-        draws(f"program: {what}", lambda world, p=program: change_stat(world.boards[1], 1, program=p), wanted)
+        draws(f"program: {what}", lambda world, p=program: change_stat(world.boards[1], 1, program=p), wanted, noted='board 1 "Hall": 0 cells, 1 program\n')
     for what, change_it, wanted in shapes():
-        draws(what, change_it, wanted, longest=256)
+        draws(what, change_it, wanted, longest=256, noted=NOTES.get(what))
+    takes_away()
     lenient()
     two_authors()
     moved_objects()
@@ -776,7 +885,7 @@ def main():
     for seed in range(COUNT):
         draw, dice = at_random(seed)
         # boards at random may be taken for one another
-        draws(f"at random {seed}", draw, rubbish=dice.randrange(256), longest=dice.choice([1, 60, 255, 256]), beside=None)
+        draws(f"at random {seed}", draw, rubbish=dice.randrange(256), longest=dice.choice([1, 60, 255, 256]), beside=None, options=("--force",))
     print(f"drawing: {passed} passed, {failed} failed")
     return 1 if failed else 0
 

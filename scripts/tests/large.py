@@ -5,6 +5,7 @@ zed.py spells edit files and says what edits make, and zzt.py reads and writes w
 
 import os
 import random
+import re
 import subprocess
 import sys
 
@@ -137,7 +138,8 @@ def takes(world, data):
     stat.program += b"\rWhat a large world!\r"
     board.fill(10, 10, 20, 12, (250, 14))
     put("drawn.zzt", zzt.write(world))
-    is_so("take", run(ZZTOOL, "take", "taken.zed", 9, "drawn.zzt"), f"0 5 taken, {COUNT + 5} edits")
+    told = run(ZZTOOL, "take", "taken.zed", 9, "drawn.zzt").splitlines()[0]
+    is_so("take", re.sub(r": [0-9.]+ to [0-9.]+$", "", told), f"0 5 taken, {COUNT + 5} edits")
     is_so("the edits before what is taken", bytes_of("taken.zed").startswith(data), True)
     saves("taken.zed", world)
 

@@ -17,7 +17,7 @@ from naming import refusal_in
 from zzt import Board, Stat, World
 
 ZZTED, ZZTOOL, ROOM, COUNT = sys.argv[1], sys.argv[2], sys.argv[3], int(sys.argv[4])
-SOME = r"[1-9][0-9]* taken, [0-9]+ edits"
+SOME = r"[1-9][0-9]* taken, [0-9]+ edits: [0-9.]+( to [0-9.]+)?"
 NONE = r"0 taken, [0-9]+ edits"
 passed = failed = 0
 

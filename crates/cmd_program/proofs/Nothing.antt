@@ -39,7 +39,7 @@ use Rattle.cmd_program.specs.Printed.{printed, text_of_stat, text_on}
 use Rattle.cmd_program.specs.Setting.{IsChanged, IsShown, Reprograms, Sets, reprogram_told}
 
 abbrev told_none : List Edit → List Output → Effect
-told_none es files = effect files (Some (taken_line 0 (length es))) 0
+told_none es files = effect files (Some (taken_line [] (length es))) 0
 
 abbrev nothing : List Edit → Effect
 nothing es = told_none es []

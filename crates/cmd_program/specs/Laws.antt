@@ -28,4 +28,4 @@ PrintedSetsNothing =
     → program_in text ≡ Ok program
     → (file : List ℕ) (replica number : ℕ) (x : Effect)
     → Sets file replica board stat program (number, es) (Ok x)
-    → x ≡ effect [] (Some (taken_line 0 (length es))) 0
+    → x ≡ effect [] (Some (taken_line [] (length es))) 0

@@ -1,8 +1,11 @@
 pub mod Calm
 pub mod Comparing
+pub mod Counting
 pub mod Drawing
 pub mod Earlier
 pub mod Files
+pub mod Noting
 pub mod OpenSteps
+pub mod Putting
 pub mod Steps
 pub mod TakeSteps

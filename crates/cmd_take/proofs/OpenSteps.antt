@@ -27,11 +27,11 @@ use Rattle.cmd_take.proofs.Files.{other_asks, other_reads, own_reads, there_too}
 use Rattle.cmd_take.proofs.Steps.{led_by, read_led, read_led_last}
 
 -- what goes on from a stage goes on so where that goes on from another
-pub leads_by : (until : Option ℕ) (forcing : Forcing) (file world : List ℕ) (files : List Input) (W W1 : Wanting) (C C1 : Coming) (result : Result OpenStage DrawingStop)
-    → IsLed files W C W1 C1 → OpenLeads until forcing file world [] W1 C1 result → OpenLeads until forcing file world files W C result
-leads_by until forcing file world files W W1 C C1 (Ok s) led is =
-    (is.0, led_by files W W1 (OpenWantsNow until forcing file world s) C C1 (OpenComesNow until forcing file world s) led is.1)
-leads_by until forcing file world files W W1 C C1 (Err e) led is = subst (λ fs. C fs (Err e)) (append-nil files) (led.comes [] (Err e) is)
+pub leads_by : (until : Option ℕ) (forcing : Forcing) (file world : List ℕ) (files : List Input) (Wants WantsNow : Wanting) (Comes ComesNow : Coming) (result : Result OpenStage DrawingStop)
+    → IsLed files Wants Comes WantsNow ComesNow → OpenLeads until forcing file world [] WantsNow ComesNow result → OpenLeads until forcing file world files Wants Comes result
+leads_by until forcing file world files Wants WantsNow Comes ComesNow (Ok s) led is =
+    (is.0, led_by files Wants WantsNow (OpenWantsNow until forcing file world s) Comes ComesNow (OpenComesNow until forcing file world s) led is.1)
+leads_by until forcing file world files Wants WantsNow Comes ComesNow (Err e) led is = subst (λ fs. Comes fs (Err e)) (append-nil files) (led.comes [] (Err e) is)
 
 -- ---- what is written
 

@@ -43,16 +43,16 @@ reads_on Made Next i x rest r made next = (Ok x, made, next)
 -- ---- a command that goes on
 
 -- by one file more
-pub led_on : (files : List Input) (i : Input) (W W1 W2 : Wanting) (C C1 C2 : Coming) → IsLed files W C W1 C1 → IsLed (i ∷ []) W1 C1 W2 C2
-    → IsLed (files ++ i ∷ []) W C W2 C2
-led_on files i W W1 W2 C C1 C2 first next = record {
-  wants = λ rest name is. subst (λ fs. W fs name) (sym (append_assoc files (i ∷ []) rest)) (first.wants (i ∷ rest) name (next.wants rest name is));
-  comes = λ rest r is. subst (λ fs. C fs r) (sym (append_assoc files (i ∷ []) rest)) (first.comes (i ∷ rest) r (next.comes rest r is));
+pub led_on : (files : List Input) (i : Input) (Wants WantsNow WantsNext : Wanting) (Comes ComesNow ComesNext : Coming) → IsLed files Wants Comes WantsNow ComesNow → IsLed (i ∷ []) WantsNow ComesNow WantsNext ComesNext
+    → IsLed (files ++ i ∷ []) Wants Comes WantsNext ComesNext
+led_on files i Wants WantsNow WantsNext Comes ComesNow ComesNext first next = record {
+  wants = λ rest name is. subst (λ fs. Wants fs name) (sym (append_assoc files (i ∷ []) rest)) (first.wants (i ∷ rest) name (next.wants rest name is));
+  comes = λ rest r is. subst (λ fs. Comes fs r) (sym (append_assoc files (i ∷ []) rest)) (first.comes (i ∷ rest) r (next.comes rest r is));
 }
 
 -- by what goes on as another does
-pub led_by : (files : List Input) (W W1 W2 : Wanting) (C C1 C2 : Coming) → IsLed files W C W1 C1 → IsLed [] W1 C1 W2 C2 → IsLed files W C W2 C2
-led_by files W W1 W2 C C1 C2 first next = record {
+pub led_by : (files : List Input) (Wants WantsNow WantsNext : Wanting) (Comes ComesNow ComesNext : Coming) → IsLed files Wants Comes WantsNow ComesNow → IsLed [] WantsNow ComesNow WantsNext ComesNext → IsLed files Wants Comes WantsNext ComesNext
+led_by files Wants WantsNow WantsNext Comes ComesNow ComesNext first next = record {
   wants = λ rest name is. first.wants rest name (next.wants rest name is);
   comes = λ rest r is. first.comes rest r (next.comes rest r is);
 }
@@ -85,9 +85,9 @@ read_not Made Next i e why = elim why [
 ]
 
 -- the file that it asks for now
-pub wants_now : (files : List Input) (W W1 : Wanting) (C C1 : Coming) (name : List ℕ) → IsLed files W C W1 C1 → W1 [] name → W files name
-wants_now files W W1 C C1 name led is = subst (λ fs. W fs name) (append-nil files) (led.wants [] name is)
+pub wants_now : (files : List Input) (Wants WantsNow : Wanting) (Comes ComesNow : Coming) (name : List ℕ) → IsLed files Wants Comes WantsNow ComesNow → WantsNow [] name → Wants files name
+wants_now files Wants WantsNow Comes ComesNow name led is = subst (λ fs. Wants fs name) (append-nil files) (led.wants [] name is)
 
 -- what it comes to now
-pub comes_now : (files : List Input) (W W1 : Wanting) (C C1 : Coming) (r : Result Effect DrawingStop) → IsLed files W C W1 C1 → C1 [] r → C files r
-comes_now files W W1 C C1 r led is = subst (λ fs. C fs r) (append-nil files) (led.comes [] r is)
+pub comes_now : (files : List Input) (Wants WantsNow : Wanting) (Comes ComesNow : Coming) (r : Result Effect DrawingStop) → IsLed files Wants Comes WantsNow ComesNow → ComesNow [] r → Comes files r
+comes_now files Wants WantsNow Comes ComesNow r led is = subst (λ fs. Comes fs r) (append-nil files) (led.comes [] r is)

@@ -11,6 +11,7 @@ use Rattle.zed_driver.specs.Reading.{Wanting}
 use Rattle.zed_files.specs.Gathers.{BeginsWithBytes}
 use Rattle.zed_files.specs.Opened.{FileEdits}
 use Rattle.cmd_take.specs.declared.base.Presence.{Presence}
+use Rattle.cmd_take.specs.declared.opening.Forcing.{Forcing}
 use Rattle.cmd_take.specs.declared.stages.TakeStage.{TakeStage}
 use Rattle.cmd_take.specs.declared.stages.TakeStage.TheVariants.{Begun, Opened, Based, Done}
 use Rattle.cmd_take.specs.Base.{BaseOf, BaseReads, base_word, presence_of}
@@ -18,7 +19,7 @@ use Rattle.cmd_take.specs.Files.{OpensAs, ReadsAs}
 use Rattle.cmd_take.specs.Steps.{Asks, AsksNoMore, Authored, Coming, Ends, IsLed, OrMemory, Reads}
 use Rattle.cmd_take.specs.Stops.{DrawingStop, no_author}
 use Rattle.cmd_take.specs.TakeStages.{TakeComesNow, TakeWantsNow, take_next}
-use Rattle.cmd_take.specs.Taking.{BaseTakes, Draws, FileTakes, TakeBaseAsks, TakeComes, TakeWants, WorldAsks, WorldTakes, given}
+use Rattle.cmd_take.specs.Taking.{BaseTakes, FileTakes, TakeBaseAsks, TakeComes, TakeWants, Takes, WorldAsks, WorldTakes, given}
 use Rattle.cmd_take.proofs.Files.{other_asks, other_reads, own_asks, own_reads, there_too}
 use Rattle.cmd_take.proofs.Steps.{read_led, reads_on}
 
@@ -43,86 +44,86 @@ authored_not replica Made Next i e some there why = elim why [
 ]
 
 -- what follows where FILE was read
-opened_led : (base : Option (List ℕ)) (file : List ℕ) (replica : ℕ) (world : List ℕ) (i : Input) (f : FileEdits) (W : Wanting) (C : Coming)
+opened_led : (base : Option (List ℕ)) (file : List ℕ) (replica : ℕ) (forcing : Forcing) (world : List ℕ) (i : Input) (f : FileEdits) (WantsNow : Wanting) (ComesNow : Coming)
     → replica ≢ 0 → BeginsWithBytes (i ∷ []) → OpensAs None i (Ok f)
-    → ((rest : List Input) (name : List ℕ) → W rest name → TakeBaseAsks (presence_of base) (base_word base world) file world f rest name)
-    → ((rest : List Input) (r : Result Effect DrawingStop) → C rest r → OrMemory (BaseTakes (presence_of base) (base_word base world) file replica f) rest r)
-    → IsLed (i ∷ []) (TakeWants base file replica world) (TakeComes base file replica world) W C
-opened_led base file replica world i f W C some there opens wants comes = record {
+    → ((rest : List Input) (name : List ℕ) → WantsNow rest name → TakeBaseAsks (presence_of base) (base_word base world) file world f rest name)
+    → ((rest : List Input) (r : Result Effect DrawingStop) → ComesNow rest r → OrMemory (BaseTakes (presence_of base) (base_word base world) file replica forcing f) rest r)
+    → IsLed (i ∷ []) (TakeWants base file replica world) (TakeComes base forcing file replica world) WantsNow ComesNow
+opened_led base file replica forcing world i f WantsNow ComesNow some there opens wants comes = record {
   wants = λ rest name is. (some, (f, opens, wants rest name is));
   comes = λ rest r is.
-      authored replica (FileTakes (presence_of base) (base_word base world) file replica) i rest r some there
+      authored replica (FileTakes (presence_of base) (base_word base world) file replica forcing) i rest r some there
       (elim (comes rest r is) [
         | inl lack ↦ inl lack
-        | inr next ↦ inr (reads_on (OpensAs None) (BaseTakes (presence_of base) (base_word base world) file replica) i f rest r opens next)
+        | inr next ↦ inr (reads_on (OpensAs None) (BaseTakes (presence_of base) (base_word base world) file replica forcing) i f rest r opens next)
       ]);
 }
 
 -- FILE was read, and has a base of this name, or is its own
-pub opened_beside : (base : Option (List ℕ)) (file : List ℕ) (replica : ℕ) (world : List ℕ) (i : Input) (f : FileEdits) (n : List ℕ)
+pub opened_beside : (base : Option (List ℕ)) (file : List ℕ) (replica : ℕ) (forcing : Forcing) (world : List ℕ) (i : Input) (f : FileEdits) (n : List ℕ)
     → replica ≢ 0 → BeginsWithBytes (i ∷ []) → OpensAs None i (Ok f) → n ≡ base_word base world → bytes_eq n file ≡ false
-    → IsLed (i ∷ []) (TakeWants base file replica world) (TakeComes base file replica world)
+    → IsLed (i ∷ []) (TakeWants base file replica world) (TakeComes base forcing file replica world)
     (λ rest name. Asks n (BaseOf (presence_of base) f.0) (λ o. WorldAsks world) rest name)
-    (λ rest r. OrMemory (Reads (BaseOf (presence_of base) f.0) (WorldTakes n file replica f)) rest r)
-opened_beside base file replica world i f n some there opens named other =
+    (λ rest r. OrMemory (Reads (BaseOf (presence_of base) f.0) (WorldTakes n file replica forcing f)) rest r)
+opened_beside base file replica forcing world i f n some there opens named other =
     subst (λ m. bytes_eq m file ≡ false
-    → IsLed (i ∷ []) (TakeWants base file replica world) (TakeComes base file replica world)
+    → IsLed (i ∷ []) (TakeWants base file replica world) (TakeComes base forcing file replica world)
     (λ rest name. Asks m (BaseOf (presence_of base) f.0) (λ o. WorldAsks world) rest name)
-    (λ rest r. OrMemory (Reads (BaseOf (presence_of base) f.0) (WorldTakes m file replica f)) rest r)) (sym named)
-    (λ other. opened_led base file replica world i f _ _ some there opens
+    (λ rest r. OrMemory (Reads (BaseOf (presence_of base) f.0) (WorldTakes m file replica forcing f)) rest r)) (sym named)
+    (λ other. opened_led base file replica forcing world i f _ _ some there opens
     (λ rest name is. other_asks (presence_of base) (base_word base world) file f.0 (λ o. WorldAsks world) rest name other is)
     (λ rest r is. elim is [
       | inl lack ↦ inl lack
-      | inr next ↦ inr (other_reads (presence_of base) (base_word base world) file f.0 (WorldTakes (base_word base world) file replica f) rest r other next)
+      | inr next ↦ inr (other_reads (presence_of base) (base_word base world) file f.0 (WorldTakes (base_word base world) file replica forcing f) rest r other next)
     ])) other
 
-pub opened_alone : (base : Option (List ℕ)) (file : List ℕ) (replica : ℕ) (world : List ℕ) (i : Input) (f : FileEdits) (n : List ℕ)
+pub opened_alone : (base : Option (List ℕ)) (file : List ℕ) (replica : ℕ) (forcing : Forcing) (world : List ℕ) (i : Input) (f : FileEdits) (n : List ℕ)
     → replica ≢ 0 → BeginsWithBytes (i ∷ []) → OpensAs None i (Ok f) → n ≡ base_word base world → bytes_eq n file ≡ true
-    → IsLed (i ∷ []) (TakeWants base file replica world) (TakeComes base file replica world)
+    → IsLed (i ∷ []) (TakeWants base file replica world) (TakeComes base forcing file replica world)
     (λ rest name. WorldAsks world rest name)
-    (λ rest r. OrMemory (WorldTakes n file replica f None) rest r)
-opened_alone base file replica world i f n some there opens named own =
+    (λ rest r. OrMemory (WorldTakes n file replica forcing f None) rest r)
+opened_alone base file replica forcing world i f n some there opens named own =
     subst (λ m. bytes_eq m file ≡ true
-    → IsLed (i ∷ []) (TakeWants base file replica world) (TakeComes base file replica world)
+    → IsLed (i ∷ []) (TakeWants base file replica world) (TakeComes base forcing file replica world)
     (λ rest name. WorldAsks world rest name)
-    (λ rest r. OrMemory (WorldTakes m file replica f None) rest r)) (sym named)
-    (λ own. opened_led base file replica world i f _ _ some there opens
+    (λ rest r. OrMemory (WorldTakes m file replica forcing f None) rest r)) (sym named)
+    (λ own. opened_led base file replica forcing world i f _ _ some there opens
     (λ rest name is. own_asks (presence_of base) (base_word base world) file f.0 (λ o. WorldAsks world) rest name own is)
     (λ rest r is. elim is [
       | inl lack ↦ inl lack
-      | inr next ↦ inr (own_reads (presence_of base) (base_word base world) file f.0 (WorldTakes (base_word base world) file replica f) rest r own next)
+      | inr next ↦ inr (own_reads (presence_of base) (base_word base world) file f.0 (WorldTakes (base_word base world) file replica forcing f) rest r own next)
     ])) own
 
 -- ---- the base
 
 -- it was read
-pub based_on : (presence : Presence) (file : List ℕ) (replica : ℕ) (world : List ℕ) (i : Input) (f : FileEdits) (n : List ℕ) (b : Option (List Edit))
+pub based_on : (presence : Presence) (file : List ℕ) (replica : ℕ) (forcing : Forcing) (world : List ℕ) (i : Input) (f : FileEdits) (n : List ℕ) (b : Option (List Edit))
     → BaseOf presence f.0 i (Ok b)
     → IsLed (i ∷ []) (λ rest name. Asks n (BaseOf presence f.0) (λ o. WorldAsks world) rest name)
-    (λ rest r. OrMemory (Reads (BaseOf presence f.0) (WorldTakes n file replica f)) rest r)
+    (λ rest r. OrMemory (Reads (BaseOf presence f.0) (WorldTakes n file replica forcing f)) rest r)
     (λ rest name. WorldAsks world rest name)
-    (λ rest r. OrMemory (WorldTakes n file replica f b) rest r)
-based_on presence file replica world i f n b is =
-    read_led n (BaseOf presence f.0) (λ o. WorldAsks world) (WorldTakes n file replica f) i b is
+    (λ rest r. OrMemory (WorldTakes n file replica forcing f b) rest r)
+based_on presence file replica forcing world i f n b is =
+    read_led n (BaseOf presence f.0) (λ o. WorldAsks world) (WorldTakes n file replica forcing f) i b is
 
 -- ---- WORLD
 
 -- it was read, and this was done with it
-pub drawn_on : (base file : List ℕ) (replica : ℕ) (world : List ℕ) (i : Input) (f : FileEdits) (b : Option (List Edit)) (w : Contents) (x : Effect)
-    → ReadsAs i (Ok w) → Draws base file replica (given f b w) (Ok x)
-    → IsLed (i ∷ []) (λ rest name. WorldAsks world rest name) (λ rest r. OrMemory (WorldTakes base file replica f b) rest r)
+pub drawn_on : (base file : List ℕ) (replica : ℕ) (forcing : Forcing) (world : List ℕ) (i : Input) (f : FileEdits) (b : Option (List Edit)) (w : Contents) (x : Effect)
+    → ReadsAs i (Ok w) → Takes base file replica forcing (given f b w) (Ok x)
+    → IsLed (i ∷ []) (λ rest name. WorldAsks world rest name) (λ rest r. OrMemory (WorldTakes base file replica forcing f b) rest r)
     (λ rest name. ⊥) (λ rest r. (rest ≡ []) × (r ≡ Ok x))
-drawn_on base file replica world i f b w x is draws = record {
+drawn_on base file replica forcing world i f b w x is draws = record {
   wants = λ rest name none. absurd none;
   comes = λ rest r done.
-      inr (Ok w, is, (done.0, subst (Draws base file replica (given f b w)) (sym done.1) draws));
+      inr (Ok w, is, (done.0, subst (Takes base file replica forcing (given f b w)) (sym done.1) draws));
 }
 
 -- nothing was done with it
-pub drawn_not : (base file : List ℕ) (replica : ℕ) (i : Input) (f : FileEdits) (b : Option (List Edit)) (w : Contents) (e : DrawingStop)
-    → ReadsAs i (Ok w) → (e ≡ Memory) ⊎ Draws base file replica (given f b w) (Err e)
-    → OrMemory (WorldTakes base file replica f b) (i ∷ []) (Err e)
-drawn_not base file replica i f b w e is why = elim why [
+pub drawn_not : (base file : List ℕ) (replica : ℕ) (forcing : Forcing) (i : Input) (f : FileEdits) (b : Option (List Edit)) (w : Contents) (e : DrawingStop)
+    → ReadsAs i (Ok w) → (e ≡ Memory) ⊎ Takes base file replica forcing (given f b w) (Err e)
+    → OrMemory (WorldTakes base file replica forcing f b) (i ∷ []) (Err e)
+drawn_not base file replica forcing i f b w e is why = elim why [
   | inl lack ↦ inl (ap (λ x. Err x) lack)
   | inr draws ↦ inr (Ok w, is, (refl, draws))
 ]
@@ -171,14 +172,14 @@ asks_yet file replica world at stage name is some none =
     let no : Some name ≡ None = sym some ∙ ap (take_next file replica world) is ∙ none in cc
 
 -- it is refused at once
-pub none_for_no_author : (base : Option (List ℕ)) (file : List ℕ) (replica : ℕ) (world : List ℕ) (stage : TakeStage) → Begun ≡ stage
+pub none_for_no_author : (base : Option (List ℕ)) (file : List ℕ) (replica : ℕ) (forcing : Forcing) (world : List ℕ) (stage : TakeStage) → Begun ≡ stage
     → take_next file replica world stage ≡ None
-    → TakeComesNow base file replica world stage [] (Err no_author)
-none_for_no_author base file replica world stage is none =
-    subst (λ s. TakeComesNow base file replica world s [] (Err no_author)) is (inl (no_replica file replica world (ap (take_next file replica world) is ∙ none), refl, refl))
+    → TakeComesNow base forcing file replica world stage [] (Err no_author)
+none_for_no_author base file replica forcing world stage is none =
+    subst (λ s. TakeComesNow base forcing file replica world s [] (Err no_author)) is (inl (no_replica file replica world (ap (take_next file replica world) is ∙ none), refl, refl))
 
 -- it comes to its effect
-pub ends_done : (base : Option (List ℕ)) (file : List ℕ) (replica : ℕ) (world : List ℕ) (stage : TakeStage) (x : Effect) → Done x ≡ stage
-    → TakeComesNow base file replica world stage [] (Ok x)
-ends_done base file replica world stage x is =
-    subst (λ s. TakeComesNow base file replica world s [] (Ok x)) is (refl, refl)
+pub ends_done : (base : Option (List ℕ)) (file : List ℕ) (replica : ℕ) (forcing : Forcing) (world : List ℕ) (stage : TakeStage) (x : Effect) → Done x ≡ stage
+    → TakeComesNow base forcing file replica world stage [] (Ok x)
+ends_done base file replica forcing world stage x is =
+    subst (λ s. TakeComesNow base forcing file replica world s [] (Ok x)) is (refl, refl)

@@ -1,5 +1,7 @@
 pub mod Base
+pub mod Changes
 pub mod Files
+pub mod Note
 pub mod OpenStages
 pub mod Opening
 pub mod Steps

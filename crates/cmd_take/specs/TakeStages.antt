@@ -5,6 +5,7 @@ use Rattle.zed_driver.specs.Effects.{Effect}
 use Rattle.zed_files.specs.Opened.{FileEdits}
 use Rattle.zed_op.specs.declared.op.Edit.{Edit}
 use Rattle.zed_document.specs.Replica.{Replica}
+use Rattle.cmd_take.specs.declared.opening.Forcing.{Forcing}
 use Rattle.cmd_take.specs.declared.stages.TakeStage.{TakeStage}
 use Rattle.cmd_take.specs.declared.stages.TakeStage.TheVariants.{Begun, Opened, Based, Done}
 use Rattle.cmd_take.specs.Base.{BaseOf, presence_of}
@@ -35,13 +36,13 @@ TakeWantsNow base file replica world (Based d own name) files wanted = WorldAsks
 TakeWantsNow base file replica world (Done x) files wanted = ⊥
 
 -- what is still come to
-abbrev pub TakeComesNow : Option (List ℕ) → List ℕ → ℕ → List ℕ → TakeStage → List Input → Result Effect DrawingStop → Type 0
-TakeComesNow base file replica world Begun files r = TakeComes base file replica world files r
-TakeComesNow base file replica world (Opened d name) files r =
-    OrMemory (Reads (BaseOf (presence_of base) d.world) (WorldTakes (string_bytes name) file replica (file_of d))) files r
-TakeComesNow base file replica world (Based d own name) files r =
-    OrMemory (WorldTakes (string_bytes name) file replica (file_of d) (base_in own)) files r
-TakeComesNow base file replica world (Done x) files r = (files ≡ []) × (r ≡ Ok x)
+abbrev pub TakeComesNow : Option (List ℕ) → Forcing → List ℕ → ℕ → List ℕ → TakeStage → List Input → Result Effect DrawingStop → Type 0
+TakeComesNow base forcing file replica world Begun files r = TakeComes base forcing file replica world files r
+TakeComesNow base forcing file replica world (Opened d name) files r =
+    OrMemory (Reads (BaseOf (presence_of base) d.world) (WorldTakes (string_bytes name) file replica forcing (file_of d))) files r
+TakeComesNow base forcing file replica world (Based d own name) files r =
+    OrMemory (WorldTakes (string_bytes name) file replica forcing (file_of d) (base_in own)) files r
+TakeComesNow base forcing file replica world (Done x) files r = (files ≡ []) × (r ≡ Ok x)
 
 -- the file that is read next
 abbrev pub take_next : List ℕ → ℕ → List ℕ → TakeStage → Option (List ℕ)
@@ -59,8 +60,8 @@ take_left (Based d own name) = 1
 take_left (Done x) = 0
 
 -- by a file it comes to another stage, or is refused
-abbrev pub TakeLeads : Option (List ℕ) → List ℕ → ℕ → List ℕ → TakeStage → Input → Result TakeStage DrawingStop → Type 0
-TakeLeads base file replica world stage i result = MatchResult result
-    (λ s. IsSound s × IsLed (i ∷ []) (TakeWantsNow base file replica world stage) (TakeComesNow base file replica world stage)
-    (TakeWantsNow base file replica world s) (TakeComesNow base file replica world s))
-    (λ e. TakeComesNow base file replica world stage (i ∷ []) (Err e))
+abbrev pub TakeLeads : Option (List ℕ) → Forcing → List ℕ → ℕ → List ℕ → TakeStage → Input → Result TakeStage DrawingStop → Type 0
+TakeLeads base forcing file replica world stage i result = MatchResult result
+    (λ s. IsSound s × IsLed (i ∷ []) (TakeWantsNow base file replica world stage) (TakeComesNow base forcing file replica world stage)
+    (TakeWantsNow base file replica world s) (TakeComesNow base forcing file replica world s))
+    (λ e. TakeComesNow base forcing file replica world stage (i ∷ []) (Err e))

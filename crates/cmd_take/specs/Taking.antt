@@ -1,10 +1,13 @@
 -- What `take` comes to.
 use Rattle.zed_types.specs.declared.stamp.Stamp.{Stamp}
+use Rattle.zed_types.specs.Stamp.{same_stamp}
 use Rattle.zed_op.specs.declared.op.Edit.{Edit}
+use Rattle.zed_edit.specs.Replay.{replay}
 use Rattle.zed_take.specs.declared.error.TakeError.{TakeError}
 use Rattle.zed_refusal.specs.declared.reason.Reason.TheVariants as reason
 use Rattle.cmd_take.specs.declared.base.Presence.{Presence}
-use Rattle.std.specs.Prelude.{◌≡◌, ◌⊎◌, ◌==◌, ℕ, false, List, [], ◌∷◌, ◌++◌, codes, length, if◌then◌else◌, Option, Some, None, Result, Ok, Err}
+use Rattle.cmd_take.specs.declared.opening.Forcing.{Forcing}
+use Rattle.std.specs.Prelude.{◌≡◌, ◌⊎◌, ◌==◌, ℕ, false, List, [], ◌∷◌, ◌++◌, ◌-◌, codes, length, slice_get, if◌then◌else◌, Option, Some, None, Result, Ok, Err}
 use Rattle.std.specs.Fmt.{decimal}
 use Rattle.zed_world.specs.Contents.{Contents}
 use Rattle.zed_op.specs.Set.{union}
@@ -16,10 +19,11 @@ use Rattle.zed_driver.specs.Reading.{Wanting}
 use Rattle.zed_editfile.specs.Spelling.{file_text}
 use Rattle.zed_take.specs.Refusals.{CanBegin, IsLate, IsRefused}
 use Rattle.zed_take.specs.Taken.{AreTaken, next_stamp}
-use Rattle.zed_files.specs.Lines.{edits_line}
+use Rattle.zed_files.specs.Lines.{ended}
 use Rattle.zed_files.specs.Opened.{FileEdits}
 use Rattle.cmd_take.specs.Base.{BaseAsks, BaseReads, base_word, edits_of_base, presence_of}
 use Rattle.cmd_take.specs.Files.{OpensAs, ReadsAs}
+use Rattle.cmd_take.specs.Note.{told, with_told}
 use Rattle.cmd_take.specs.Stops.{DrawingStop, refused_for, take_stop}
 use Rattle.cmd_take.specs.Steps.{Asks, AsksNoMore, Authored, AuthorAsks, Coming, Ends, Reads, Steps}
 
@@ -66,39 +70,78 @@ abbrev pub base_grown : List ℕ → ℕ → Option (List Edit) → List Edit �
 base_grown base number None new = []
 base_grown base number (Some es) new = grown base number (length es) (union es new)
 
--- how many edits were taken, and how many FILE has now
-abbrev pub taken_line : ℕ → ℕ → List ℕ
-taken_line taken edits = decimal taken ++ (codes " taken, " ++ edits_line edits)
+-- a stamp: its time and its replica, with a dot between them
+unfoldable pub stamp_told : Stamp → List ℕ
+stamp_told s = decimal s.time ++ (codes "." ++ decimal s.replica)
+
+-- one stamp
+abbrev pub one_told : Stamp → List ℕ
+one_told s = codes ": " ++ stamp_told s
+
+-- two of them
+abbrev pub both_told : Stamp → Stamp → List ℕ
+both_told s t = codes ": " ++ (stamp_told s ++ (codes " to " ++ stamp_told t))
+
+-- the stamps of edits that were made one after the other: one, or the first and the last
+abbrev pub span_told : Stamp → Stamp → List ℕ
+span_told s t = if same_stamp s t then one_told s else both_told s t
+
+-- those of the first edit and the last one, where there are some
+abbrev pub ends_told : Option Edit → Option Edit → List ℕ
+ends_told (Some e) (Some f) = span_told e.stamp f.stamp
+ends_told _ _ = []
+
+-- those of edits; nothing where they are none
+abbrev pub stamps_told : List Edit → List ℕ
+stamps_told es = ends_told (slice_get es 0) (slice_get es (length es - 1))
+
+-- how many edits were made, how many FILE has now, and the stamps of those that were made
+abbrev pub made_line : ℕ → ℕ → List ℕ → List ℕ
+made_line made edits stamps = decimal made ++ (codes " taken, " ++ (decimal edits ++ (codes " edits" ++ ended stamps)))
+
+-- the same of edits that were taken
+abbrev pub taken_line : List Edit → ℕ → List ℕ
+taken_line new edits = made_line (length new) edits (stamps_told new)
 
 -- the base gets the new edits, and behind it FILE all edits, where they haven't got them already
 abbrev pub drawn : List ℕ → List ℕ → Given → List Edit → List Edit → Effect
 drawn base file g all new =
     effect (base_grown base g.number g.base new ++ grown file g.number (length g.edits) (union all new))
-    (Some (taken_line (length new) (length (union all new)))) 0
+    (Some (taken_line new (length (union all new)))) 0
 
--- what is done with what was read
+-- edits that were found are taken, with a note; unless too many boards go
+abbrev pub took : List ℕ → List ℕ → Forcing → Given → List Edit → List Edit → Result Effect DrawingStop
+took base file forcing g all new = with_told (told forcing (replay (edits_of_base g.base g.edits)) new) (drawn base file g all new)
+
+-- what `take` does with what was read
+unfoldable pub Takes : List ℕ → List ℕ → ℕ → Forcing → Given → Result Effect DrawingStop → Type 0
+Takes base file replica forcing g r =
+    Steps (IsJoined g.edits g.base) (λ all.
+    Steps (IsTaken all (edits_of_base g.base g.edits) g.shown replica) (λ new r. r ≡ took base file forcing g all new)) r
+
+-- what is done with it, whatever goes, and without a note, by commands that change FILE by a world that they make
 unfoldable pub Draws : List ℕ → List ℕ → ℕ → Given → Result Effect DrawingStop → Type 0
 Draws base file replica g r =
     Steps (IsJoined g.edits g.base) (λ all.
     Steps (IsTaken all (edits_of_base g.base g.edits) g.shown replica) (λ new r. r ≡ Ok (drawn base file g all new))) r
 
 -- WORLD is read last, and the edits are taken that lead to it
-abbrev pub WorldTakes : List ℕ → List ℕ → ℕ → FileEdits → Option (List Edit) → List Input → Result Effect DrawingStop → Type 0
-WorldTakes base file replica f b files r = Reads ReadsAs (λ w. Ends (Draws base file replica (given f b w))) files r
+abbrev pub WorldTakes : List ℕ → List ℕ → ℕ → Forcing → FileEdits → Option (List Edit) → List Input → Result Effect DrawingStop → Type 0
+WorldTakes base file replica forcing f b files r = Reads ReadsAs (λ w. Ends (Takes base file replica forcing (given f b w))) files r
 
 -- the base of FILE is read, and then WORLD
-abbrev pub BaseTakes : Presence → List ℕ → List ℕ → ℕ → FileEdits → List Input → Result Effect DrawingStop → Type 0
-BaseTakes presence base file replica f files r =
-    BaseReads presence base file f.0 (WorldTakes base file replica f) files r
+abbrev pub BaseTakes : Presence → List ℕ → List ℕ → ℕ → Forcing → FileEdits → List Input → Result Effect DrawingStop → Type 0
+BaseTakes presence base file replica forcing f files r =
+    BaseReads presence base file f.0 (WorldTakes base file replica forcing f) files r
 
 -- FILE is read, then its base, and then WORLD
-abbrev pub FileTakes : Presence → List ℕ → List ℕ → ℕ → List Input → Result Effect DrawingStop → Type 0
-FileTakes presence base file replica files r = Reads (OpensAs None) (BaseTakes presence base file replica) files r
+abbrev pub FileTakes : Presence → List ℕ → List ℕ → ℕ → Forcing → List Input → Result Effect DrawingStop → Type 0
+FileTakes presence base file replica forcing files r = Reads (OpensAs None) (BaseTakes presence base file replica forcing) files r
 
 -- what `take` comes to: its effect, or the first refusal
-abbrev pub TakeComes : Option (List ℕ) → List ℕ → ℕ → List ℕ → List Input → Result Effect DrawingStop → Type 0
-TakeComes base file replica world files r =
-    Authored replica (FileTakes (presence_of base) (base_word base world) file replica) files r
+abbrev pub TakeComes : Option (List ℕ) → Forcing → List ℕ → ℕ → List ℕ → List Input → Result Effect DrawingStop → Type 0
+TakeComes base forcing file replica world files r =
+    Authored replica (FileTakes (presence_of base) (base_word base world) file replica forcing) files r
 
 -- WORLD is asked for
 abbrev pub WorldAsks : List ℕ → List Input → List ℕ → Type 0

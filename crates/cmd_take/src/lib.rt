@@ -4,6 +4,8 @@
 #![tactic(auto)]
 
 mod base;
+mod changes;
+mod note;
 mod open;
 mod opening;
 mod reading;

@@ -26,12 +26,13 @@ use zed_refusal::export_stop;
 use zed_types::READ_BODY_LIMIT;
 use zed_world::{World, WorldError, write_world};
 
-/// Whether a world file that was drawn in may be replaced.
+/// Whether `open` replaces a world file that was drawn in, and whether `take` removes more than half
+/// of the boards.
 #[derive(Clone, Copy)]
 pub enum Forcing {
     /// That is refused.
     Careful,
-    /// It is replaced without a look.
+    /// It is done without a look.
     Forced,
 }
 

@@ -19,6 +19,9 @@ pub enum DrawingReason {
     /// found that lead to it.
     #[error("what was drawn was not taken")]
     NotTaken,
+    /// From `take`: so many boards would go, more than half of those beside the title.
+    #[error("{0} boards would go")]
+    TakesAway(usize),
     /// From the setting of a program: here its text has something that no program has.
     #[error("the text has something that no program has, at {0:?}")]
     BadText(BadText),

@@ -8,10 +8,11 @@ ghost use Rattle.cmd_take.specs.TakeStages.{IsSound, TakeComesNow, TakeLeads, Ta
 ghost use Rattle.cmd_take.specs.Taking.{TakeComes, TakeWants};
 
 use crate::base::{Presence, base_of};
+use crate::opening::Forcing;
 use crate::reading::{opened_file, world_of};
 use crate::reason::DrawingReason;
 use crate::stages::TakeStage;
-use crate::taking::draw;
+use crate::taking::take_world;
 use crate::telling::base_name;
 use std::alloc::Global;
 use std::mem::replace;
@@ -22,10 +23,13 @@ use zed_refusal::Reason;
 
 /// Takes what another editor drew in a world file, as the author with this number. FILE is read, then
 /// its base, and then WORLD; behind one that is refused none. 0 is no author's number: it is refused
-/// before any file is read. Memory is asked for only if FILE is there.
+/// before any file is read. Memory is asked for only if FILE is there. If more than half of the
+/// boards beside the title would go, TakesAway refuses it, behind all other refusals, unless it is
+/// forced.
 #[derive(Drop)]
 pub struct Take<'a> {
     base: Option<&'a str>,
+    forcing: Forcing,
     file: &'a str,
     replica: u16,
     world: &'a str,
@@ -34,22 +38,31 @@ pub struct Take<'a> {
 
 impl<'a> Take<'a> {
     /// Before a file was read. Without a name the base is the one beside WORLD, if that is there.
-    pub fn new(base: Option<&'a str>, file: &'a str, replica: u16, world: &'a str) -> Take<'a>
+    pub fn new(
+        base: Option<&'a str>,
+        forcing: Forcing,
+        file: &'a str,
+        replica: u16,
+        world: &'a str,
+    ) -> Take<'a>
         ensures base { result.base ≡ base.entry }
+        ensures forcing { result.forcing ≡ forcing }
         ensures file { result.file ≡ file.entry }
         ensures replica { result.replica ≡ replica }
         ensures world { result.world ≡ world.entry }
         ensures stage { result.stage ≡ HasBegun }
         ensures stands { IsSound result.stage × IsLed []
             (TakeWants (text_in result.base) result.file.now result.replica result.world.now)
-            (TakeComes (text_in result.base) result.file.now result.replica result.world.now)
+            (TakeComes (text_in result.base) result.forcing result.file.now result.replica
+            result.world.now)
             (TakeWantsNow (text_in result.base) result.file.now result.replica
             result.world.now result.stage)
-            (TakeComesNow (text_in result.base) result.file.now result.replica
+            (TakeComesNow (text_in result.base) result.forcing result.file.now result.replica
             result.world.now result.stage) }
     {
         Take {
             base,
+            forcing,
             file,
             replica,
             world,
@@ -70,8 +83,8 @@ impl<'a> Take<'a> {
     // Reads FILE.
     fn opened(&self, alloc: Global, file: Input) -> Result<TakeStage, Stop<DrawingReason>>
         requires { self.now.replica ≢ 0 }
-        ensures leads { TakeLeads (text_in self.now.base) self.now.file.now self.now.replica
-            self.now.world.now HasBegun file result }
+        ensures leads { TakeLeads (text_in self.now.base) self.now.forcing self.now.file.now
+            self.now.replica self.now.world.now HasBegun file result }
         ensures fewer { IfOk result (λ s. take_left s < 3) }
     {
         let document = opened_file(alloc, None, file)?;
@@ -96,8 +109,8 @@ impl<'a> Take<'a> {
         file: Input,
     ) -> Result<TakeStage, Stop<DrawingReason>>
         requires { document.is_stale ≡ false }
-        ensures leads { TakeLeads (text_in self.now.base) self.now.file.now self.now.replica
-            self.now.world.now (IsOpened document name) file result }
+        ensures leads { TakeLeads (text_in self.now.base) self.now.forcing self.now.file.now
+            self.now.replica self.now.world.now (IsOpened document name) file result }
         ensures fewer { IfOk result (λ s. take_left s < 2) }
     {
         let base = base_of(alloc, self.presence(), file, document.world())?;
@@ -118,12 +131,12 @@ impl<'a> Take<'a> {
         file: Input,
     ) -> Result<TakeStage, Stop<DrawingReason>>
         requires { IsSound (IsBased document base name) }
-        ensures leads { TakeLeads (text_in self.now.base) self.now.file.now self.now.replica
-            self.now.world.now (IsBased document base name) file result }
+        ensures leads { TakeLeads (text_in self.now.base) self.now.forcing self.now.file.now
+            self.now.replica self.now.world.now (IsBased document base name) file result }
         ensures fewer { IfOk result (λ s. take_left s < 1) }
     {
         let world = world_of(alloc, file)?;
-        let effect = draw(
+        let effect = take_world(
             alloc,
             name.as_str(),
             self.file,
@@ -131,6 +144,7 @@ impl<'a> Take<'a> {
             base,
             &world,
             self.replica,
+            self.forcing,
         )?;
         Ok(TakeStage::Done { effect })
     }
@@ -145,8 +159,8 @@ impl<'a> Take<'a> {
         requires next { is_some (take_next self.now.file.now self.now.replica
             self.now.world.now stage) ≡ true }
         requires sound { IsSound stage }
-        ensures leads { TakeLeads (text_in self.now.base) self.now.file.now self.now.replica
-            self.now.world.now stage file result }
+        ensures leads { TakeLeads (text_in self.now.base) self.now.forcing self.now.file.now
+            self.now.replica self.now.world.now stage file result }
         ensures fewer { IfOk result (λ s. take_left s < take_left stage) }
     {
         match stage {
@@ -173,13 +187,13 @@ impl<'a> Command for Take<'a> {
 
     ghost Wants = { λ c. TakeWants (text_in c.base) c.file.now c.replica c.world.now };
 
-    ghost Comes = { λ c. TakeComes (text_in c.base) c.file.now c.replica c.world.now };
+    ghost Comes = { λ c. TakeComes (text_in c.base) c.forcing c.file.now c.replica c.world.now };
 
     ghost Stands = { λ c files s. IsSound s.stage × IsLed files
         (TakeWants (text_in c.base) c.file.now c.replica c.world.now)
-        (TakeComes (text_in c.base) c.file.now c.replica c.world.now)
+        (TakeComes (text_in c.base) c.forcing c.file.now c.replica c.world.now)
         (TakeWantsNow (text_in s.base) s.file.now s.replica s.world.now s.stage)
-        (TakeComesNow (text_in s.base) s.file.now s.replica s.world.now s.stage) };
+        (TakeComesNow (text_in s.base) s.forcing s.file.now s.replica s.world.now s.stage) };
 
     ghost next = { λ c. take_next c.file.now c.replica c.world.now c.stage };
 

@@ -4,14 +4,16 @@ ghost use Rattle.zed_driver.specs.declared.command.Stop.TheVariants.{Memory};
 ghost use Rattle.zed_driver.specs.Effects.{effect};
 ghost use Rattle.cmd_take.specs.Steps.{Gives};
 ghost use Rattle.cmd_take.specs.Stops.{take_stop as taking_stop};
-ghost use Rattle.cmd_take.specs.Taking.{Draws, IsJoined, IsTaken, given, grown, taken_line};
+ghost use Rattle.cmd_take.specs.Taking.{Draws, IsJoined, IsTaken, Takes, given, grown, made_line, taken_line};
 ghost use Rattle.zed_op.specs.Set.{AllFit, union};
 ghost use Rattle.zed_take.specs.declared.error.TakeError.{TakeError as TheTakeError};
 ghost use Rattle.zed_take.specs.Refusals.{IsRefused};
 ghost use Rattle.zed_take.specs.Taken.{Joins};
 
+use crate::note::{noting, told};
+use crate::opening::Forcing;
 use crate::reason::{DrawingReason, drawing_stop, take_stop};
-use crate::telling::{taken_told, writes_and_tells};
+use crate::telling::{stamps_told, taken_told, writes_and_tells};
 use std::alloc::{AllocError, Global};
 use zed_document::{Document, copies_of};
 use zed_driver::{Effect, Output, Stop};
@@ -63,14 +65,15 @@ fn alone_effect(
     file: &str,
     had: usize,
     taken: usize,
+    stamps: &str,
     document: &Document,
 ) -> Result<Effect, AllocError>
     ensures { IfOk result (λ x. x ≡ effect (grown file.now document.now.world had document.now.edits)
-        (Some (taken_line taken (length document.now.edits))) 0) }
+        (Some (made_line taken (length document.now.edits) stamps.now)) 0) }
 {
     let mut files = Vec::new(alloc);
     add_grown(alloc, &mut files, file, had, document)?;
-    let line = taken_told(alloc, taken, count_of(document))?;
+    let line = taken_told(alloc, taken, count_of(document), stamps)?;
     Ok(writes_and_tells(files, line))
 }
 
@@ -93,10 +96,51 @@ pub fn draw_alone(
 {
     let had = count_of(document);
     let edits = taken_edits(alloc, document, document, world, replica)?;
-    let taken = taken_of(&edits);
-    deliver(document, edits)?;
-    let effect = alone_effect(alloc, file, had, taken, document)?;
+    let effect = add_alone(alloc, file, document, had, edits)?;
     Ok(effect)
+}
+
+// Adds edits that were taken to a file that is its own base and had so many.
+#[tactic(none)]
+fn add_alone(
+    alloc: Global,
+    file: &str,
+    document: &mut Document,
+    had: usize,
+    edits: Vec<Edit>,
+) -> Result<Effect, AllocError>
+    requires fit { AllFit edits.items }
+    requires joins { Joins document.old.edits edits.items }
+    requires sound { document.old.is_stale ≡ false }
+    ensures { IfOk result (λ x. x ≡ effect
+        (grown file.now document.old.world had (union document.old.edits edits.items))
+        (Some (taken_line edits.items (length (union document.old.edits edits.items)))) 0) }
+{
+    let taken = taken_of(&edits);
+    let stamps = stamps_told(alloc, &edits)?;
+    deliver(document, edits)?;
+    alone_effect(alloc, file, had, taken, stamps.as_str(), document)
+}
+
+// What `take` does with a file that is its own base.
+#[tactic(none)]
+fn take_alone(
+    alloc: Global,
+    file: &str,
+    document: &mut Document,
+    world: &World,
+    replica: u16,
+    forcing: Forcing,
+) -> Result<Effect, Stop<DrawingReason>>
+    requires { document.old.is_stale ≡ false }
+    ensures { (base : List ℕ) → Gives (λ x. x) (Takes base file.now replica forcing
+        (given (document.old.world, document.old.edits) None world.now)) result }
+{
+    let had = count_of(document);
+    let edits = taken_edits(alloc, document, document, world, replica)?;
+    let note = told(alloc, forcing, document, &edits)?;
+    let effect = add_alone(alloc, file, document, had, edits)?;
+    Ok(noting(effect, note))
 }
 
 // Joins copies of edits that were taken to a base.
@@ -119,17 +163,18 @@ fn beside_effect(
     base_had: usize,
     file_had: usize,
     taken: usize,
+    stamps: &str,
     base: &Document,
     document: &Document,
 ) -> Result<Effect, AllocError>
     ensures { IfOk result (λ x. x ≡ effect (grown name.now base.now.world base_had base.now.edits
         ++ grown file.now document.now.world file_had document.now.edits)
-        (Some (taken_line taken (length document.now.edits))) 0) }
+        (Some (made_line taken (length document.now.edits) stamps.now)) 0) }
 {
     let mut files = Vec::new(alloc);
     add_grown(alloc, &mut files, name, base_had, base)?;
     add_grown(alloc, &mut files, file, file_had, document)?;
-    let line = taken_told(alloc, taken, count_of(document))?;
+    let line = taken_told(alloc, taken, count_of(document), stamps)?;
     Ok(writes_and_tells(files, line))
 }
 
@@ -152,13 +197,24 @@ fn add_to_both(
     ensures { IfOk result (λ x. x ≡ effect
         (grown name.now base.old.world (length base.old.edits) (union base.old.edits edits.items)
         ++ grown file.now document.old.world file_had (union document.old.edits edits.items))
-        (Some (taken_line (length edits.items) (length (union document.old.edits edits.items)))) 0) }
+        (Some (taken_line edits.items (length (union document.old.edits edits.items)))) 0) }
 {
     let taken = taken_of(&edits);
+    let stamps = stamps_told(alloc, &edits)?;
     let base_had = count_of(base);
     deliver_copies(alloc, base, &edits)?;
     deliver(document, edits)?;
-    beside_effect(alloc, name, file, base_had, file_had, taken, base, document)
+    beside_effect(
+        alloc,
+        name,
+        file,
+        base_had,
+        file_had,
+        taken,
+        stamps.as_str(),
+        base,
+        document,
+    )
 }
 
 // The edits that are taken.
@@ -204,9 +260,9 @@ fn join_base(document: &mut Document, base: &Document) -> Result<(), Stop<Drawin
     }
 }
 
-// What is done with a file and a base of its own.
+// What `take` does with a file and a base of its own.
 #[tactic(none)]
-fn draw_beside(
+fn take_beside(
     alloc: Global,
     name: &str,
     file: &str,
@@ -214,22 +270,24 @@ fn draw_beside(
     base: &mut Document,
     world: &World,
     replica: u16,
+    forcing: Forcing,
 ) -> Result<Effect, Stop<DrawingReason>>
     requires sound { document.old.is_stale ≡ false }
     requires base { base.old.is_stale ≡ false }
     requires world { base.old.world ≡ document.old.world }
-    ensures { Gives (λ x. x) (Draws name.now file.now replica
+    ensures { Gives (λ x. x) (Takes name.now file.now replica forcing
         (given (document.old.world, document.old.edits) (Some base.old.edits) world.now)) result }
 {
     let had = count_of(document);
     join_base(document, base)?;
     let edits = taken_edits(alloc, document, base, world, replica)?;
+    let note = told(alloc, forcing, base, &edits)?;
     let effect = add_to_both(alloc, name, file, base, document, had, edits)?;
-    Ok(effect)
+    Ok(noting(effect, note))
 }
 
-/// What is done with FILE, a base of its own and WORLD.
-pub(crate) fn draw(
+/// What `take` does with FILE, a base of its own and WORLD.
+pub(crate) fn take_world(
     alloc: Global,
     name: &str,
     file: &str,
@@ -237,17 +295,25 @@ pub(crate) fn draw(
     base: Option<Document>,
     world: &World,
     replica: u16,
+    forcing: Forcing,
 ) -> Result<Effect, Stop<DrawingReason>>
     requires sound { document.is_stale ≡ false }
     requires base { IfSome base (λ b. (b.is_stale ≡ false) × (b.world ≡ document.world)) }
-    ensures { Gives (λ x. x) (Draws name.now file.now replica
+    ensures { Gives (λ x. x) (Takes name.now file.now replica forcing
         (given (document.world, document.edits) (option_map (λ d. d.edits) base) world.now)) result }
 {
     let mut document = document;
     match base {
-        Some(mut base) => {
-            draw_beside(alloc, name, file, &mut document, &mut base, world, replica)
-        }
-        None => draw_alone(alloc, file, &mut document, world, replica),
+        Some(mut base) => take_beside(
+            alloc,
+            name,
+            file,
+            &mut document,
+            &mut base,
+            world,
+            replica,
+            forcing,
+        ),
+        None => take_alone(alloc, file, &mut document, world, replica, forcing),
     }
 }

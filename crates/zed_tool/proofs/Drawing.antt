@@ -1,11 +1,12 @@
 -- Commands that draw tell of a file that can't be had only if they were given one.
 use Rattle.std.proofs.Common.{◌≡◌, ◌∙◌, ℕ, Bool, true, false, List, [], ◌∷◌, Option, Some, None, Result, Ok, Err, ap, refl, subst, sym, inl, inr}
-use Rattle.std.specs.Prelude.{⊤, ◌⊎◌, MatchBool}
+use Rattle.std.specs.Prelude.{⊤, ◌⊎◌, MatchBool, if◌then◌else◌, length}
 use Rattle.std.specs.Str.{bytes_eq}
 use Rattle.zed_op.specs.declared.op.Edit.{Edit}
 use Rattle.zed_world.specs.Contents.{Contents}
 use Rattle.zed_world.specs.Reading.{world_at}
 use Rattle.zed_world.specs.declared.error.WorldError.{WorldError}
+use Rattle.zed_edit.specs.declared.plain.Plain.{Plain}
 use Rattle.zed_edit.specs.Replay.{replay}
 use Rattle.zed_export.specs.declared.error.ExportError.{ExportError}
 use Rattle.zed_export.specs.Limits.{exported, saved}
@@ -27,12 +28,15 @@ use Rattle.zed_files.specs.Rewrites.{Opens}
 use Rattle.cmd_take.specs.declared.opening.Forcing.{Forcing}
 use Rattle.cmd_take.specs.declared.opening.Forcing.TheVariants.{Careful, Forced}
 use Rattle.cmd_take.specs.declared.reason.DrawingReason.{DrawingReason}
+use Rattle.cmd_take.specs.declared.reason.DrawingReason.TheVariants.{TakesAway}
 use Rattle.cmd_take.specs.Base.{BaseOf, BaseReads, HasEdits, HeldBase, base_word, beside, edits_of_base, presence_of}
+use Rattle.cmd_take.specs.Changes.{are_too_many, removals, world_boards}
 use Rattle.cmd_take.specs.Files.{IsOpened, IsWorld, OfFile, OpensAs, ReadsAs, world_told}
+use Rattle.cmd_take.specs.Note.{note, told, with_told}
 use Rattle.cmd_take.specs.Opening.{FoundReads, IsExported, IsSame, IsWritten, OpenComes, Replaces, Shown, TriedWorld, WritesOver, export_told, up_to}
 use Rattle.cmd_take.specs.Steps.{Authored, Coming, Does, Ends, GoesOn, OrLacks, Reads, Steps, Then}
 use Rattle.cmd_take.specs.Stops.{DrawingStop, drawing_stop, drawing_told, no_author}
-use Rattle.cmd_take.specs.Taking.{BaseTakes, Draws, FileTakes, Given, IsJoined, IsTaken, TakeComes, WorldTakes, given}
+use Rattle.cmd_take.specs.Taking.{BaseTakes, Draws, FileTakes, Given, IsJoined, IsTaken, TakeComes, Takes, WorldTakes, drawn, given}
 use Rattle.cmd_program.specs.Setting.{FileSets, IsChanged, IsShown, IsSpelled, ProgramComes, Reprograms, Sets, reprogram_stop, reprogram_told, text_told}
 use Rattle.zed_tool.proofs.Driven.{TellsLacks}
 use Rattle.zed_tool.proofs.Lacking.{opens_not, same_stop}
@@ -157,18 +161,32 @@ draws_never base file replica g is =
 
 -- ---- `take`
 
-world_lacks : (base file : List ℕ) (replica : ℕ) (f : FileEdits) (b : Option (List Edit)) → TellsLacks (WorldTakes base file replica f b)
-world_lacks base file replica f b =
-    reads_lacks ReadsAs (λ w. Ends (Draws base file replica (given f b w))) world_never
-    (λ w. ends_lacks (Draws base file replica (given f b w)) (draws_never base file replica (given f b w)))
+told_never : (forcing : Forcing) (p : Plain) (new : List Edit) (x : Effect) → Never (λ r. r ≡ with_told (told forcing p new) x)
+told_never forcing p new x is = go (are_too_many forcing (length (world_boards p)) (removals new)) is
+  where
+    go : (b : Bool) → stopped File ≡ with_told (if b then Err (Refused (TakesAway (removals new))) else Ok (note p new)) x → ⊥
+    go true same = cc
+    go false same = cc
 
-pub take_lacks : (base : Option (List ℕ)) (file : List ℕ) (replica : ℕ) (world : List ℕ) → TellsLacks (TakeComes base file replica world)
-take_lacks base file replica world =
+takes_never : (base file : List ℕ) (replica : ℕ) (forcing : Forcing) (g : Given) → Never (Takes base file replica forcing g)
+unfolding Takes
+takes_never base file replica forcing g is =
+    steps_never (IsJoined g.edits g.base) _ (joined_never g.edits g.base)
+    (λ all. steps_never (IsTaken all (edits_of_base g.base g.edits) g.shown replica) _ (taken_never all (edits_of_base g.base g.edits) g.shown replica)
+    (λ new. told_never forcing (replay (edits_of_base g.base g.edits)) new (drawn base file g all new))) is
+
+world_lacks : (base file : List ℕ) (replica : ℕ) (forcing : Forcing) (f : FileEdits) (b : Option (List Edit)) → TellsLacks (WorldTakes base file replica forcing f b)
+world_lacks base file replica forcing f b =
+    reads_lacks ReadsAs (λ w. Ends (Takes base file replica forcing (given f b w))) world_never
+    (λ w. ends_lacks (Takes base file replica forcing (given f b w)) (takes_never base file replica forcing (given f b w)))
+
+pub take_lacks : (base : Option (List ℕ)) (forcing : Forcing) (file : List ℕ) (replica : ℕ) (world : List ℕ) → TellsLacks (TakeComes base forcing file replica world)
+take_lacks base forcing file replica world =
     let presence = presence_of base in
     let name = base_word base world in
-    author_lacks replica (FileTakes presence name file replica)
-    (reads_lacks (OpensAs None) (BaseTakes presence name file replica) (opened_never None)
-    (λ f. base_lacks base name file f.0 (WorldTakes name file replica f) (world_lacks name file replica f)))
+    author_lacks replica (FileTakes presence name file replica forcing)
+    (reads_lacks (OpensAs None) (BaseTakes presence name file replica forcing) (opened_never None)
+    (λ f. base_lacks base name file f.0 (WorldTakes name file replica forcing f) (world_lacks name file replica forcing f)))
 
 -- ---- `open`
 

@@ -17,6 +17,7 @@ shared_never e is = reason_is e (refused_is (reason_refusal e) refusal.File is)
 pub drawing_never : (text : List ℕ) → NeverFile (drawing_failure text)
 drawing_never text (drawing.Common e) is = shared_never e is
 drawing_never text drawing.NotTaken is = cc
+drawing_never text (drawing.TakesAway boards) is = cc
 drawing_never text (drawing.BadText bad) is = cc
 
 pub set_never : (words : List (List ℕ)) → NeverFile (set_failure words)

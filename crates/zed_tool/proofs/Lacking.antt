@@ -45,6 +45,7 @@ use Rattle.cmd_log.specs.declared.linting.Strictness.{Strictness}
 use Rattle.cmd_log.specs.Linted.{lint_of, lints, printed_with}
 use Rattle.cmd_log.specs.Listed.{list_of, listed, lists, program_of, program_on, ranks_of, stats_of, unless_over}
 use Rattle.cmd_log.specs.Logged.{board_or_none, board_sought, cell_on, cell_sought, log_of, log_with, logs, named_board, place_of, sought_of, sought_with, there}
+use Rattle.cmd_program.specs.Every.{every_of, every_text, prints_every}
 use Rattle.cmd_program.specs.Printed.{printed, prints_program, text_of_stat, text_on}
 use Rattle.cmd_show.specs.Pictured.{board_in, shown_of, shows, world_in}
 use Rattle.cmd_set.specs.declared.reason.SetReason.{SetReason}
@@ -194,6 +195,13 @@ pub prints_not : (board stat : ℕ) (es : List Edit) → NotFile (prints_program
 prints_not board stat es =
     let b = slice_get (world_of (replay es)).boards board in
     printed_not (printed board stat es) (over_not (refusal_of 32767 (replay es)) (text_on b stat) (text_on_not b stat))
+
+-- ---- and where it prints all
+
+pub every_not : (es : List Edit) → NotFile (prints_every es)
+every_not es =
+    let text = every_text (world_of (replay es)).boards in
+    printed_not (every_of es) (over_not (refusal_of 32767 (replay es)) (Ok text) (found_not text))
 
 -- ---- a file of a set that is told to be missing or unreadable was so
 

@@ -1,9 +1,10 @@
--- The status of a command that was carried out: 0, or 1 where `lint` finds something.
+-- The status of a command that was carried out: 0, or 1 where `lint` finds something, or `undo` undoes nothing and says why.
 use Rattle.std.proofs.Common.{◌≡◌, ◌∙◌, ℕ, Bool, true, false, nat_lt, List, [], ◌∷◌, Option, Some, None, Result, Ok, Err, ap, refl, subst, sym, inl, inr}
 use Rattle.std.specs.Prelude.{⊤, ◌⊎◌, MatchBool, if◌then◌else◌}
 use Rattle.std.specs.Str.{bytes_eq}
 use Rattle.zed_op.specs.declared.op.Edit.{Edit}
 use Rattle.zed_world.specs.Contents.{Contents}
+use Rattle.zed_edit.specs.Replay.{replay}
 use Rattle.zed_host.specs.Calls.{Call}
 use Rattle.zed_log.specs.ListLaws.{lines_in}
 use Rattle.zed_driver.specs.declared.command.Stop.{Stop}
@@ -18,11 +19,13 @@ use Rattle.zed_files.specs.declared.refusal.Refusal.{Refusal}
 use Rattle.zed_files.specs.Opened.{FileEdits}
 use Rattle.zed_files.specs.Rewrites.{IsRewritten, rewritten}
 use Rattle.zed_files.specs.Tells.{FilesCome, printed_as, told_of}
+use Rattle.cmd_undo.proofs.Ends.{undo_status}
 use Rattle.cmd_log.specs.declared.linting.Strictness.{Strictness}
 use Rattle.cmd_log.specs.declared.linting.Strictness.TheVariants.{Lenient, Strict}
 use Rattle.cmd_log.specs.Linted.{lint_of, lints, printed_with, status_of}
 use Rattle.cmd_log.specs.Listed.{list_of, lists}
 use Rattle.cmd_log.specs.Logged.{log_of, logs}
+use Rattle.cmd_program.specs.Every.{every_of, prints_every}
 use Rattle.cmd_program.specs.Printed.{printed, prints_program}
 use Rattle.cmd_program.specs.Setting.{FileSets, IsChanged, IsSpelled, ProgramComes, Sets}
 use Rattle.cmd_set.specs.declared.reason.SetReason.{SetReason}
@@ -33,16 +36,17 @@ use Rattle.cmd_take.specs.declared.opening.Forcing.{Forcing}
 use Rattle.cmd_take.specs.declared.opening.Forcing.TheVariants.{Careful, Forced}
 use Rattle.cmd_take.specs.Base.{BaseOf, BaseReads, base_word, beside, edits_of_base, presence_of}
 use Rattle.cmd_take.specs.Files.{OfFile, OpensAs, ReadsAs}
+use Rattle.cmd_take.specs.Note.{noting, told, with_told}
 use Rattle.cmd_take.specs.Opening.{FoundReads, IsExported, IsSame, IsWritten, OpenComes, Replaces, Shown, TriedWorld, WritesOver, up_to}
 use Rattle.cmd_take.specs.Steps as steps
 use Rattle.cmd_take.specs.Steps.{Authored, Does, Ends, GoesOn, OrLacks, Reads, Steps, Then}
 use Rattle.cmd_take.specs.Stops.{DrawingStop}
-use Rattle.cmd_take.specs.Taking.{BaseTakes, Draws, FileTakes, Given, IsJoined, IsTaken, TakeComes, WorldTakes, given}
+use Rattle.cmd_take.specs.Taking.{BaseTakes, Draws, FileTakes, Given, IsJoined, IsTaken, TakeComes, Takes, WorldTakes, drawn, given}
 use Rattle.zed_set_words.specs.Rows.{wish_of}
-use Rattle.zed_tool_words.specs.Commands.{Command, Open, Take, Log, Lists, Show, Play, Lint, Set, ProgramOf, SetProgram}
+use Rattle.zed_tool_words.specs.Commands.{Command, Open, Take, Log, Lists, Show, Play, Lint, Undo, UndoPull, Set, ProgramOf, Programs, SetProgram}
 use Rattle.zed_tool.specs.Answers.{Answer, handed, told_as}
-use Rattle.zed_tool.specs.Commands.{AsksCourse, course_of, filter_of, forcing_of, form_of, length_of, listing_of, strictness_of}
-use Rattle.zed_tool.specs.Driving.{AsksDriven, Driving, to_open, to_set, to_set_program, to_take, to_tell}
+use Rattle.zed_tool.specs.Commands.{AsksCourse, chosen_as, course_of, filter_of, forcing_of, form_of, length_of, listing_of, manner_of, pulled_as, strictness_of}
+use Rattle.zed_tool.specs.Driving.{AsksDriven, Driving, to_open, to_set, to_set_program, to_take, to_tell, to_undo}
 
 abbrev IsStatus : ℕ → Type 0
 IsStatus n = (n ≡ 0) ⊎ (n ≡ 1)
@@ -163,15 +167,31 @@ draws_zero base file replica g x is =
     steps_zero (IsJoined g.edits g.base) _ x
     (λ all rest. steps_zero (IsTaken all (edits_of_base g.base g.edits) g.shown replica) _ x (λ new same. zero_as x _ refl same) rest) is
 
-take_zero : (base : Option (List ℕ)) (file : List ℕ) (replica : ℕ) (world : List ℕ) → Zero (TakeComes base file replica world)
-take_zero base file replica world =
+-- a note changes no status
+noting_zero : (text : List ℕ) (x : Effect) → x.status ≡ 0 → (noting text x).status ≡ 0
+noting_zero [] x zero = zero
+noting_zero (c ∷ cs) x zero = zero
+
+noted_zero : (m : Result (List ℕ) DrawingStop) (x y : Effect) → y.status ≡ 0 → did x ≡ with_told m y → x.status ≡ 0
+noted_zero (Ok text) x y zero is = zero_as x (noting text y) (noting_zero text y zero) is
+noted_zero (Err e) x y zero is = not_both x e is
+
+takes_zero : (base file : List ℕ) (replica : ℕ) (forcing : Forcing) (g : Given) (x : Effect) → Takes base file replica forcing g (Ok x) → x.status ≡ 0
+unfolding Takes
+takes_zero base file replica forcing g x is =
+    steps_zero (IsJoined g.edits g.base) _ x
+    (λ all rest. steps_zero (IsTaken all (edits_of_base g.base g.edits) g.shown replica) _ x
+    (λ new same. noted_zero (told forcing (replay (edits_of_base g.base g.edits)) new) x (drawn base file g all new) refl same) rest) is
+
+take_zero : (base : Option (List ℕ)) (forcing : Forcing) (file : List ℕ) (replica : ℕ) (world : List ℕ) → Zero (TakeComes base forcing file replica world)
+take_zero base forcing file replica world =
     let presence = presence_of base in
     let name = base_word base world in
-    author_zero replica (FileTakes presence name file replica)
-    (reads_zero (OpensAs None) (BaseTakes presence name file replica)
-    (λ f. base_zero base name file f.0 (WorldTakes name file replica f)
-    (λ b. reads_zero ReadsAs (λ w. Ends (Draws name file replica (given f b w)))
-    (λ w. ends_zero (Draws name file replica (given f b w)) (draws_zero name file replica (given f b w))))))
+    author_zero replica (FileTakes presence name file replica forcing)
+    (reads_zero (OpensAs None) (BaseTakes presence name file replica forcing)
+    (λ f. base_zero base name file f.0 (WorldTakes name file replica forcing f)
+    (λ b. reads_zero ReadsAs (λ w. Ends (Takes name file replica forcing (given f b w)))
+    (λ w. ends_zero (Takes name file replica forcing (given f b w)) (takes_zero name file replica forcing (given f b w))))))
 
 over_zero : (world : List ℕ) (f : FileEdits) (bytes : List ℕ) (w : Contents) (b : Option (List Edit)) (x : Effect) → WritesOver world f bytes w b (Ok x)
     → x.status ≡ 0
@@ -244,8 +264,8 @@ pub command_status : {H : Type 0} (called : H → Call → H → Type 0) (comman
     → (status ≡ 0) ⊎ (status ≡ 1)
 command_status called (Open until forcing file world) status old new asks =
     zero_status called (to_open until (forcing_of forcing) file world) status old new (open_zero until (forcing_of forcing) file world) asks
-command_status called (Take base file replica world) status old new asks =
-    zero_status called (to_take base file replica world) status old new (take_zero base file replica world) asks
+command_status called (Take base forcing file replica world) status old new asks =
+    zero_status called (to_take base (forcing_of forcing) file replica world) status old new (take_zero base (forcing_of forcing) file replica world) asks
 command_status called (Log length board cell replica since files) status old new asks =
     let l = length_of length in
     let f = filter_of board cell replica since in
@@ -257,9 +277,17 @@ command_status called (Show form board files) status old new asks =
 command_status called (Play going rows words keys board files) status old new asks = played_status asks.0 status asks.2
 command_status called (Lint strictness files) status old new asks =
     tell_status called (lints (strictness_of strictness)) files status old new (λ es x same. linted_status (strictness_of strictness) (lint_of es) x same) asks
+command_status called (Undo trial others file replica chosen) status old new asks =
+    let m = manner_of trial others in
+    driven_status called (to_undo file replica m (chosen_as chosen)) status old new (undo_status file m replica (chosen_as chosen)) asks
+command_status called (UndoPull trial others file replica newer older) status old new asks =
+    let m = manner_of trial others in
+    driven_status called (to_undo file replica m (pulled_as newer older)) status old new (undo_status file m replica (pulled_as newer older)) asks
 command_status called (Set file replica words) status old new asks =
     zero_status called (to_set file replica words) status old new (set_zero file replica words) asks
 command_status called (ProgramOf board stat files) status old new asks =
     tell_status called (prints_program board stat) files status old new (λ es x same. printed_status (printed board stat es) x same) asks
+command_status called (Programs files) status old new asks =
+    tell_status called prints_every files status old new (λ es x same. printed_status (every_of es) x same) asks
 command_status called (SetProgram file replica board stat text) status old new asks =
     zero_status called (to_set_program file replica board stat text) status old new (program_zero file replica board stat) asks

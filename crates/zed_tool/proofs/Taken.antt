@@ -25,7 +25,10 @@ use Rattle.cmd_take.specs.Base.{HasEdits, base_word}
 use Rattle.cmd_take.specs.Files.{IsOpened, world_told}
 use Rattle.cmd_take.specs.Steps.{Then}
 use Rattle.cmd_take.specs.Stops.{DrawingStop, drawing_told, take_stop}
-use Rattle.cmd_take.specs.Taking.{Draws, IsJoined, IsTaken, TakeComes, TakeWants, drawn, given}
+use Rattle.cmd_take.specs.declared.opening.Forcing.{Forcing}
+use Rattle.cmd_take.specs.Taking.{IsJoined, IsTaken, TakeComes, TakeWants, Takes, given, took}
+use Rattle.zed_tool_words.specs.declared.asked.Forcing.{Forcing as ForcingWord}
+use Rattle.zed_tool.specs.Commands.{forcing_of}
 use Rattle.cmd_take.proofs.Calm.{OfBases, OfBytes, OfWorld, take_calmly}
 use Rattle.zed_tool.specs.Answers.{drawing_failure, memory}
 use Rattle.zed_tool.specs.Calm.{Ending, HasStatus, Leaves, left_by}
@@ -120,27 +123,27 @@ text_there n es None text = absurd text
 text_there n es (Some bytes) text = (bytes, refl, text)
 
 -- what is done with it
-abbrev DrawsSet : List ℕ → List ℕ → ℕ → ℕ → List Edit → List Edit → Contents → Result Effect DrawingStop → Type 0
-DrawsSet name file replica number own based shown r =
+abbrev TakesBoth : List ℕ → List ℕ → Forcing → ℕ → ℕ → List Edit → List Edit → Contents → Result Effect DrawingStop → Type 0
+TakesBoth name file forcing replica number own based shown r =
     (k : _) × IsTaken (union own based) based shown replica k
-    × Then k (λ new r. r ≡ Ok (drawn name file (given (number, own) (Some based) shown) (union own based) new)) r
+    × Then k (λ new r. r ≡ took name file forcing (given (number, own) (Some based) shown) (union own based) new) r
 
-draws_set : (name file : List ℕ) (replica number : ℕ) (own based : List Edit) (shown : Contents) (r : Result Effect DrawingStop)
+takes_both : (name file : List ℕ) (forcing : Forcing) (replica number : ℕ) (own based : List Edit) (shown : Contents) (r : Result Effect DrawingStop)
     → Agree own based
-    → Draws name file replica (given (number, own) (Some based) shown) r → DrawsSet name file replica number own based shown r
-unfolding Draws IsJoined
-draws_set name file replica number own based shown r agree draws =
+    → Takes name file replica forcing (given (number, own) (Some based) shown) r → TakesBoth name file forcing replica number own based shown r
+unfolding Takes IsJoined
+takes_both name file forcing replica number own based shown r agree draws =
     let joined : draws.0 ≡ Ok (union own based) = elim draws.1 [
       | inl both ↦ both.1
       | inr clash ↦ absurd (let at = clash.1.clashes in at.6 (agree at.0 at.1 at.2 at.3 (at.4 ∙ sym at.5)))
     ] in
     then_ok _ draws.0 (union own based) r joined draws.2
 
-taken_set : (name file : List ℕ) (t : HostContents) (replica number : ℕ) (own based : List Edit) (shown : Contents) (x : Result Effect DrawingStop) (status : ℕ) (new : Option HostContents)
-    → DrawsSet name file replica number own based shown x → HasStatus (left_by (drawing_failure file) t x) t status new
-    → TakesSet name file t replica number own based shown status new
+taken_set : (name file : List ℕ) (t : HostContents) (forcing : ForcingWord) (replica number : ℕ) (own based : List Edit) (shown : Contents) (x : Result Effect DrawingStop) (status : ℕ) (new : Option HostContents)
+    → TakesBoth name file (forcing_of forcing) replica number own based shown x → HasStatus (left_by (drawing_failure file) t x) t status new
+    → TakesSet name file t forcing replica number own based shown status new
 unfolding IsTaken
-taken_set name file t replica number own based shown x status new draws has = elim draws.1 [
+taken_set name file t forcing replica number own based shown x status new draws has = elim draws.1 [
   | inl taken ↦ (
       let is = then_ok _ draws.0 taken.0 x taken.2 draws.2 in
       inl (taken.0, taken.1, subst (λ x. HasStatus (left_by (drawing_failure file) t x) t status new) is has))
@@ -151,58 +154,58 @@ taken_set name file t replica number own based shown x status new draws has = el
 
 -- the set of what the bytes of the three files spell is drawn
 draws_of : WrittenIsRead
-    → (words : List (List ℕ)) (t : HostContents) (name file : List ℕ) (replica number : ℕ) (own based : List Edit) (shown : Contents) (x : Result Effect DrawingStop)
-    → (asks : AsksToTake words t name file replica number own based shown) (first second : List ℕ) → IsTextOf number own first → IsTextOf number based second
-    → OfBytes name file replica first second asks.bytes x
-    → DrawsSet name file replica number (set_of own) (set_of based) shown x
-draws_of law words t name file replica number own based shown x asks first second text base_text is =
+    → (words : List (List ℕ)) (t : HostContents) (name file : List ℕ) (forcing : ForcingWord) (replica number : ℕ) (own based : List Edit) (shown : Contents) (x : Result Effect DrawingStop)
+    → (asks : AsksToTake words t name file forcing replica number own based shown) (first second : List ℕ) → IsTextOf number own first → IsTextOf number based second
+    → OfBytes name file replica (forcing_of forcing) first second asks.bytes x
+    → TakesBoth name file (forcing_of forcing) replica number (set_of own) (set_of based) shown x
+draws_of law words t name file forcing replica number own based shown x asks first second text base_text is =
     let one = bytes_opened law None number own first is.0 asks.is_number (records_left own based asks.records) (agree_left own based asks.agree) refl text is.1 in
-    let bases = then_ok (OfBases name file replica second asks.bytes) is.0 (number, set_of own) x one is.2 in
+    let bases = then_ok (OfBases name file replica (forcing_of forcing) second asks.bytes) is.0 (number, set_of own) x one is.2 in
     let based_on = bases.1 in
     let two = then_ok HasEdits based_on.0 (number, set_of based) bases.0
     (bytes_opened law (Some number) number based second based_on.0 asks.is_number (records_right own based asks.records) (agree_right own based asks.agree) (same_world number) base_text based_on.1)
     based_on.2 in
-    let last = then_ok (OfWorld name file replica asks.bytes (number, set_of own)) bases.0 (Some (set_of based)) x two bases.2 in
+    let last = then_ok (OfWorld name file replica (forcing_of forcing) asks.bytes (number, set_of own)) bases.0 (Some (set_of based)) x two bases.2 in
     let three : last.0 ≡ Ok shown = last.1 ∙ ap world_told asks.reads in
-    let draws = then_ok (λ w. Draws name file replica (given (number, set_of own) (Some (set_of based)) w)) last.0 shown x three last.2 in
-    draws_set name file replica number (set_of own) (set_of based) shown x (sets_agree own based asks.agree) draws
+    let draws = then_ok (λ w. Takes name file replica (forcing_of forcing) (given (number, set_of own) (Some (set_of based)) w)) last.0 shown x three last.2 in
+    takes_both name file (forcing_of forcing) replica number (set_of own) (set_of based) shown x (sets_agree own based asks.agree) draws
 
 -- where memory suffices, that is what `take` comes to
 takes_set : WrittenIsRead
-    → (words : List (List ℕ)) (t : HostContents) (name file : List ℕ) (replica number : ℕ) (own based : List Edit) (shown : Contents) (x : Result Effect DrawingStop)
-    → (asks : AsksToTake words t name file replica number own based shown)
-    → ComesIn ⊥ t (TakeWants asks.base file replica asks.world) (TakeComes asks.base file replica asks.world) x
-    → (x ≡ Err Memory) ⊎ DrawsSet name file replica number (set_of own) (set_of based) shown x
-takes_set law words t name file replica number own based shown x asks comes =
+    → (words : List (List ℕ)) (t : HostContents) (name file : List ℕ) (forcing : ForcingWord) (replica number : ℕ) (own based : List Edit) (shown : Contents) (x : Result Effect DrawingStop)
+    → (asks : AsksToTake words t name file forcing replica number own based shown)
+    → ComesIn ⊥ t (TakeWants asks.base file replica asks.world) (TakeComes asks.base (forcing_of forcing) file replica asks.world) x
+    → (x ≡ Err Memory) ⊎ TakesBoth name file (forcing_of forcing) replica number (set_of own) (set_of based) shown x
+takes_set law words t name file forcing replica number own based shown x asks comes =
     let first = text_there number own (file_in t file) asks.spelled in
     let second = text_there number based (file_in t name) asks.base_spelled in
     let word = asks.is_base in
-    elim (take_calmly t asks.base file replica asks.world first.0 second.0 asks.bytes x asks.is_author (subst (λ n. bytes_eq n file ≡ false) word asks.other) first.1 (subst (λ n. file_in t n ≡ Some second.0) word second.1) asks.there comes) [
+    elim (take_calmly t asks.base file replica (forcing_of forcing) asks.world first.0 second.0 asks.bytes x asks.is_author (subst (λ n. bytes_eq n file ≡ false) word asks.other) first.1 (subst (λ n. file_in t n ≡ Some second.0) word second.1) asks.there comes) [
       | inl lack ↦ inl lack
-      | inr all ↦ inr (draws_of law words t name file replica number own based shown x asks first.0 second.0 first.2 second.2 (subst (λ n. OfBytes n file replica first.0 second.0 asks.bytes x) (sym word) all))
+      | inr all ↦ inr (draws_of law words t name file forcing replica number own based shown x asks first.0 second.0 first.2 second.2 (subst (λ n. OfBytes n file replica (forcing_of forcing) first.0 second.0 asks.bytes x) (sym word) all))
     ]
 
 -- how `take` ends where its host didn't fail, whatever the devices of a playtest are
-abbrev EndsTaking : HostContents → Option (List ℕ) → List ℕ → ℕ → List ℕ → ℕ → Option HostContents → Type 0
-EndsTaking t base file replica world status new =
-    ((ending : Ending) × Leaves (left_by (drawing_failure file) t) (ComesIn ⊥ t (TakeWants base file replica world) (TakeComes base file replica world)) ending
+abbrev EndsTaking : HostContents → Option (List ℕ) → Forcing → List ℕ → ℕ → List ℕ → ℕ → Option HostContents → Type 0
+EndsTaking t base forcing file replica world status new =
+    ((ending : Ending) × Leaves (left_by (drawing_failure file) t) (ComesIn ⊥ t (TakeWants base file replica world) (TakeComes base forcing file replica world)) ending
     × HasStatus ending t status new)
     ⊎ HasStatus (Err memory) t status new
 
 -- and `run` ends so
 pub run_takes : WrittenIsRead
-    → (words : List (List ℕ)) (t : HostContents) (name file : List ℕ) (replica number : ℕ) (own based : List Edit) (shown : Contents) (status : ℕ)
-    (new : Option HostContents) → (asks : AsksToTake words t name file replica number own based shown)
-    → EndsTaking t asks.base file replica asks.world status new
-    → TakesSet name file t replica number (set_of own) (set_of based) shown status new
-run_takes law words t name file replica number own based shown status new asks ended = elim ended [
+    → (words : List (List ℕ)) (t : HostContents) (name file : List ℕ) (forcing : ForcingWord) (replica number : ℕ) (own based : List Edit) (shown : Contents) (status : ℕ)
+    (new : Option HostContents) → (asks : AsksToTake words t name file forcing replica number own based shown)
+    → EndsTaking t asks.base (forcing_of forcing) file replica asks.world status new
+    → TakesSet name file t forcing replica number (set_of own) (set_of based) shown status new
+run_takes law words t name file forcing replica number own based shown status new asks ended = elim ended [
   | inl done ↦ (
       let comes = done.1 in
       let x = comes.0 in
       let has : HasStatus (left_by (drawing_failure file) t x) t status new = subst (λ r. HasStatus r t status new) comes.2 done.2 in
-      elim (takes_set law words t name file replica number own based shown x asks comes.1) [
+      elim (takes_set law words t name file forcing replica number own based shown x asks comes.1) [
         | inl lack ↦ inr (inr (subst (λ x. HasStatus (left_by (drawing_failure file) t x) t status new) lack has))
-        | inr draws ↦ taken_set name file t replica number (set_of own) (set_of based) shown x status new draws has
+        | inr draws ↦ taken_set name file t forcing replica number (set_of own) (set_of based) shown x status new draws has
       ])
   | inr lacks ↦ inr (inr lacks)
 ]

@@ -15,11 +15,13 @@ use Rattle.zed_tool.specs.declared.error.ToolError.{ToolError}
 use Rattle.zed_tool.specs.declared.error.ToolError.TheVariants as tool
 use Rattle.std.specs.Prelude.{◌≡◌, ℕ, List, Option, Result, Ok, Err, ⊤, option_map, slice_get}
 
--- why a command was not carried out: a refusal that `zzted` has too; a world file that was drawn in and not taken; a word that may not be
+-- why a command was not carried out: a refusal that `zzted` has too; a world file that was drawn in and not taken; more than half of the
+-- boards that would be taken away; a word that may not be
 -- there, or none where more are wanted, and what may be there; a file whose text is no program, with the line and the column
 pub data Failure : Type 0 where
   Refused : (refusal : Refusal) → Failure
   NotTaken : Failure
+  TakesAway : (boards : ℕ) → Failure
   BadWord : (word : Option (List ℕ)) → (expected : Expected) → Failure
   BadText : (file : List ℕ) → (line : ℕ) → (column : ℕ) → Failure
 
@@ -39,6 +41,7 @@ Answer = Result ℕ Failure
 abbrev pub failure_of : ToolError → Failure
 failure_of (tool.Refused e) = Refused e
 failure_of tool.NotTaken = NotTaken
+failure_of (tool.TakesAway boards) = TakesAway boards
 failure_of (tool.BadWord word expected) = BadWord (option_map (λ s. s.now) word) expected
 failure_of (tool.BadText name bad) = BadText name.now bad.line bad.column
 
@@ -73,6 +76,7 @@ shared_failure e = Refused (reason_refusal e)
 abbrev pub drawing_failure : List ℕ → DrawingReason → Failure
 drawing_failure text (drawing.Common e) = shared_failure e
 drawing_failure text drawing.NotTaken = NotTaken
+drawing_failure text (drawing.TakesAway boards) = TakesAway boards
 drawing_failure text (drawing.BadText bad) = BadText text bad.line bad.column
 
 -- a word of these that may not be there

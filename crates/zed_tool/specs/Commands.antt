@@ -25,7 +25,17 @@ use Rattle.zed_tool_words.specs.declared.asked.Listing.{Listing as ListingWords}
 use Rattle.zed_tool_words.specs.declared.asked.Listing.TheVariants.{Boards, Stats, Program}
 use Rattle.zed_tool_words.specs.declared.asked.Strictness.{Strictness as StrictnessWord}
 use Rattle.zed_tool_words.specs.declared.asked.Strictness.TheVariants.{Lenient, Strict}
-use Rattle.zed_tool_words.specs.Commands.{Command, Open, Take, Log, Lists, Show, Play, Lint, Set, ProgramOf, SetProgram}
+use Rattle.zed_tool_words.specs.declared.asked.Trial.{Trial as TrialWord}
+use Rattle.zed_tool_words.specs.declared.asked.Trial.TheVariants.{Real, Dry}
+use Rattle.zed_tool_words.specs.declared.asked.Others.{Others as OthersWord}
+use Rattle.zed_tool_words.specs.declared.asked.Others.TheVariants.{Spared, Included}
+use Rattle.cmd_undo.specs.declared.manner.Manner.{Manner}
+use Rattle.cmd_undo.specs.declared.manner.Trial.{Trial}
+use Rattle.cmd_undo.specs.declared.manner.Trial.TheVariants as undoing
+use Rattle.cmd_undo.specs.declared.manner.Others.{Others}
+use Rattle.cmd_undo.specs.declared.manner.Others.TheVariants as building
+use Rattle.cmd_undo.specs.Undoing.{Wish, Chosen as ChosenWish, Pulled}
+use Rattle.zed_tool_words.specs.Commands.{Chosen, Command, Open, Take, Log, Lists, Show, Play, Lint, Undo, UndoPull, Set, ProgramOf, Programs, SetProgram}
 use Rattle.std.specs.Prelude.{unwrap_or, ℕ, Bool, true, false, List, ◌∷◌, [], ◌++◌, Option, Some, None}
 use Rattle.zed_host.specs.Calls.{Call, Printing}
 use Rattle.zed_host.specs.HostContents.{HostContents}
@@ -34,17 +44,18 @@ use Rattle.zed_files.specs.Asked.{refusal_in}
 use Rattle.cmd_log.specs.Linted.{lints}
 use Rattle.cmd_log.specs.Listed.{lists}
 use Rattle.cmd_log.specs.Logged.{logs}
+use Rattle.cmd_program.specs.Every.{prints_every}
 use Rattle.cmd_program.specs.Printed.{prints_program}
 use Rattle.cmd_show.specs.Pictured.{shows}
 use Rattle.cmd_play.specs.Asking.{AsksPlay, keeping}
 use Rattle.cmd_play.specs.Ending.{EndsPlay, Request, request}
 use Rattle.cmd_play.specs.Led.{Led}
 use Rattle.zed_tool.specs.Answers.{Answer, Handed, told_as}
-use Rattle.zed_tool.specs.Driving.{AsksDriven, Driving, EndsDriven, StepsDriven, to_open, to_set, to_set_program, to_take, to_tell}
+use Rattle.zed_tool.specs.Driving.{AsksDriven, Driving, EndsDriven, StepsDriven, to_open, to_set, to_set_program, to_take, to_tell, to_undo}
 
 -- ---- what words ask for, as the commands take it
 
--- what is done to a world file that was drawn in
+-- what is done where work would be lost
 abbrev pub forcing_of : ForcingWord → Forcing
 forcing_of Careful = drawing.Careful
 forcing_of Forced = drawing.Forced
@@ -69,6 +80,32 @@ length_of Full = lengths.Full
 abbrev pub strictness_of : StrictnessWord → Strictness
 strictness_of Lenient = lint.Lenient
 strictness_of Strict = lint.Strict
+
+-- whether what is undone is written
+abbrev pub trial_of : TrialWord → Trial
+trial_of Real = undoing.Real
+trial_of Dry = undoing.Dry
+
+-- what is done with what others built on the edits that are undone
+abbrev pub others_of : OthersWord → Others
+others_of Spared = building.Spared
+others_of Included = building.Included
+
+-- both
+abbrev pub manner_of : TrialWord → OthersWord → Manner
+manner_of trial others = record { trial = trial_of trial; others = others_of others }
+
+-- the edits that are chosen are undone
+abbrev pub chosen_as : Chosen → Wish
+chosen_as c = ChosenWish (record {
+  filter = record { board = c.board; cell = c.cell; replica = c.by; since = c.since; until = c.until };
+  stamps = c.stamps;
+  last = c.last;
+})
+
+-- those that one file has and another one has not
+abbrev pub pulled_as : List ℕ → List ℕ → Wish
+pulled_as newer older = Pulled newer older
 
 -- how a picture is written
 abbrev pub form_of : FormWord → Form
@@ -104,14 +141,17 @@ pub data Course : Type 1 where
 -- what these words ask for
 abbrev pub course_of : Command → Course
 course_of (Open until forcing file world) = Driven (to_open until (forcing_of forcing) file world)
-course_of (Take base file replica world) = Driven (to_take base file replica world)
+course_of (Take base forcing file replica world) = Driven (to_take base (forcing_of forcing) file replica world)
 course_of (Log length board cell replica since files) = Driven (to_tell (logs (length_of length) (filter_of board cell replica since)) files)
 course_of (Lists listing files) = Driven (to_tell (lists (listing_of listing)) files)
 course_of (Show form board files) = Driven (to_tell (shows (form_of form) board) files)
 course_of (Play going rows words keys board files) = Played (request words keys (going_of going) (size_of rows) board files)
 course_of (Lint strictness files) = Driven (to_tell (lints (strictness_of strictness)) files)
+course_of (Undo trial others file replica chosen) = Driven (to_undo file replica (manner_of trial others) (chosen_as chosen))
+course_of (UndoPull trial others file replica newer older) = Driven (to_undo file replica (manner_of trial others) (pulled_as newer older))
 course_of (Set file replica words) = Driven (to_set file replica words)
 course_of (ProgramOf board stat files) = Driven (to_tell (prints_program board stat) files)
+course_of (Programs files) = Driven (to_tell prints_every files)
 course_of (SetProgram file replica board stat text) = Driven (to_set_program file replica board stat text)
 
 -- so it ends, with this in its host, where devices are led so

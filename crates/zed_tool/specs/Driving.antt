@@ -5,6 +5,8 @@ use Rattle.cmd_take.specs.declared.opening.Forcing.{Forcing}
 use Rattle.cmd_take.specs.declared.reason.DrawingReason.{DrawingReason}
 use Rattle.cmd_take.specs.Opening.{OpenComes, OpenWants}
 use Rattle.cmd_take.specs.Taking.{TakeComes, TakeWants}
+use Rattle.cmd_undo.specs.declared.manner.Manner.{Manner}
+use Rattle.cmd_undo.specs.Undoing.{UndoComes, UndoWants, Wish}
 use Rattle.cmd_program.specs.Setting.{ProgramComes, ProgramWants}
 use Rattle.std.specs.Prelude.{◌≡◌, ◌≤◌, ℕ, List, Option, Some, Result, IfErr}
 use Rattle.zed_op.specs.declared.op.Edit.{Edit}
@@ -39,9 +41,18 @@ to_open until forcing file world =
     record { refusal = DrawingReason; wants = OpenWants until forcing file world; comes = OpenComes until forcing file world; failure = drawing_failure file }
 
 -- `take`
-abbrev pub to_take : Option (List ℕ) → List ℕ → ℕ → List ℕ → Driving
-to_take base file replica world =
-    record { refusal = DrawingReason; wants = TakeWants base file replica world; comes = TakeComes base file replica world; failure = drawing_failure file }
+abbrev pub to_take : Option (List ℕ) → Forcing → List ℕ → ℕ → List ℕ → Driving
+to_take base forcing file replica world =
+    record { refusal = DrawingReason; wants = TakeWants base file replica world; comes = TakeComes base forcing file replica world; failure = drawing_failure file }
+
+-- `undo`
+abbrev pub to_undo : List ℕ → ℕ → Manner → Wish → Driving
+to_undo file replica manner wish = record {
+  refusal = DrawingReason;
+  wants = UndoWants file replica wish;
+  comes = UndoComes file manner replica wish;
+  failure = drawing_failure file;
+}
 
 -- `set`
 abbrev pub to_set : List ℕ → ℕ → List (List ℕ) → Driving

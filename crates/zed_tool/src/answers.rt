@@ -37,6 +37,7 @@ fn drawing_error<'a>(text: &'a str, reason: DrawingReason) -> ToolError<'a>
     match reason {
         DrawingReason::Common(reason) => ToolError::Refused(Refusal::from(reason)),
         DrawingReason::NotTaken => ToolError::NotTaken,
+        DrawingReason::TakesAway(boards) => ToolError::TakesAway(boards),
         DrawingReason::BadText(bad) => ToolError::BadText(text, bad),
     }
 }

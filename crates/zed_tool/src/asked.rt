@@ -1,14 +1,15 @@
 //! What words ask for, as the commands take it.
 ghost use Rattle.std.specs.Prelude.{◌≡◌};
-ghost use Rattle.zed_tool.specs.Commands.{forcing_of as forcing_for, form_of as form_for, going_of as going_for, length_of as length_for, listing_of as listing_for, size_of as size_for, strictness_of as strictness_for};
+ghost use Rattle.zed_tool.specs.Commands.{forcing_of as forcing_for, form_of as form_for, going_of as going_for, length_of as length_for, listing_of as listing_for, others_of as others_for, size_of as size_for, strictness_of as strictness_for, trial_of as trial_for};
 
 use cmd_log::{Length, Listing, Strictness};
 use cmd_play::Going;
 use cmd_take::Forcing;
+use cmd_undo::{Others, Trial};
 use zed_look::Form;
 use zed_terminal::Size;
 
-/// What is done to a world file that was drawn in.
+/// What is done where work would be lost.
 pub(crate) fn forcing_of(forcing: zed_tool_words::Forcing) -> Forcing
     ensures { result ≡ forcing_for forcing }
 {
@@ -77,5 +78,25 @@ pub(crate) fn strictness_of(strictness: zed_tool_words::Strictness) -> Strictnes
     match strictness {
         zed_tool_words::Strictness::Lenient => Strictness::Lenient,
         zed_tool_words::Strictness::Strict => Strictness::Strict,
+    }
+}
+
+/// Whether what is undone is written.
+pub(crate) fn trial_of(trial: zed_tool_words::Trial) -> Trial
+    ensures { result ≡ trial_for trial }
+{
+    match trial {
+        zed_tool_words::Trial::Real => Trial::Real,
+        zed_tool_words::Trial::Dry => Trial::Dry,
+    }
+}
+
+/// What is done with what others built on the edits that are undone.
+pub(crate) fn others_of(others: zed_tool_words::Others) -> Others
+    ensures { result ≡ others_for others }
+{
+    match others {
+        zed_tool_words::Others::Spared => Others::Spared,
+        zed_tool_words::Others::Included => Others::Included,
     }
 }

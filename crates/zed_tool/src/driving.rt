@@ -2,16 +2,18 @@
 ghost use Rattle.std.specs.Prelude.{◌≡◌, ℕ, Err, List};
 ghost use Rattle.zed_driver.specs.declared.command.Stop.TheVariants.{File};
 ghost use Rattle.zed_driver.specs.Hosts.{hosts};
+ghost use Rattle.cmd_undo.specs.Undoing.{meaning_of};
 ghost use Rattle.zed_op.specs.declared.op.Edit.{Edit as TheEdit};
 ghost use Rattle.zed_files.specs.Texts.{text_in, texts_of};
 ghost use Rattle.zed_tool.specs.Answers.{answer_of};
-ghost use Rattle.zed_tool.specs.Driving.{Carried, to_open, to_set, to_set_program, to_take, to_tell};
+ghost use Rattle.zed_tool.specs.Driving.{Carried, to_open, to_set, to_set_program, to_take, to_tell, to_undo};
 
 use crate::answers::{drawn, set_told, told};
 use crate::error::ToolError;
 use cmd_program::SetProgram;
 use cmd_set::Set;
 use cmd_take::{Forcing, Open, Take};
+use cmd_undo::{Manner, Source, Undo};
 use std::alloc::Global;
 use zed_driver::drive;
 use zed_files::{OfFiles, Rewrites, Telling};
@@ -54,15 +56,16 @@ pub(crate) fn take_world<'a, H: Host>(
     alloc: Global,
     host: &mut H,
     base: Option<&str>,
+    forcing: Forcing,
     file: &'a str,
     replica: u16,
     world: &str,
 ) -> Result<u8, ToolError<'a>>
     ensures { Carried (hosts H.contents H.called H.failed H.faults)
-        (to_take (text_in base.entry) file.entry.now replica world.now) (answer_of result)
+        (to_take (text_in base.entry) forcing file.entry.now replica world.now) (answer_of result)
         host.old host.new }
 {
-    let mut command = Take::new(base, file, replica, world);
+    let mut command = Take::new(base, forcing, file, replica, world);
     drawn(file, drive(alloc, host, &mut command))
 }
 
@@ -97,4 +100,21 @@ pub(crate) fn set_program<'a, H: Host>(
 {
     let mut command = SetProgram::new(file, replica, board, stat, text);
     drawn(text, drive(alloc, host, &mut command))
+}
+
+/// Undoes edits of a file.
+pub(crate) fn undo<'a, H: Host>(
+    alloc: Global,
+    host: &mut H,
+    file: &'a str,
+    replica: u16,
+    manner: Manner,
+    source: Source<'_>,
+) -> Result<u8, ToolError<'a>>
+    ensures { Carried (hosts H.contents H.called H.failed H.faults)
+        (to_undo file.entry.now replica manner (meaning_of source.entry)) (answer_of result)
+        host.old host.new }
+{
+    let mut command = Undo::new(file, replica, manner, source);
+    drawn(file, drive(alloc, host, &mut command))
 }

@@ -1,7 +1,7 @@
 //! The lines of refusals: those of `zzted`, under the name `zztool`, and some more.
 ghost use Rattle.std.specs.Prelude.{◌≡◌, IfOk, IfSome, None, option_map, string_bytes, true};
 ghost use Rattle.zed_files.specs.declared.refusal.Refusal.TheVariants.{BadEdit};
-ghost use Rattle.zed_tool.specs.Answers.{BadText as TextFailure, BadWord, Refused, failure_of};
+ghost use Rattle.zed_tool.specs.Answers.{BadText as TextFailure, BadWord, Refused, TakesAway, failure_of};
 ghost use Rattle.zed_tool.specs.Lines.{line_of as line_for, tells_more};
 
 use crate::error::ToolError;
@@ -78,7 +78,7 @@ pub(crate) fn plain_line(error: ToolError<'_>) -> Option<&'static str>
     match error {
         ToolError::Refused(refusal) => shared_line(refusal),
         ToolError::NotTaken => Some("zztool: NotTaken\n"),
-        ToolError::BadWord(_, _) | ToolError::BadText(_, _) => None,
+        ToolError::TakesAway(_) | ToolError::BadWord(_, _) | ToolError::BadText(_, _) => None,
     }
 }
 
@@ -100,6 +100,13 @@ fn shared_line_of(alloc: Global, refusal: Refusal) -> Result<String, AllocError>
         ),
         _ => String::from_str(alloc, shared_line(refusal).unwrap_or("")),
     }
+}
+
+// The lines where too many boards would go.
+fn takes_away_line(alloc: Global, boards: usize) -> Result<String, AllocError>
+    ensures { IfOk result (λ text. string_bytes text ≡ line_for (TakesAway boards)) }
+{
+    format!(in alloc; "zztool: TakesAway {boards}\nzztool: take --force takes it all the same\n")
 }
 
 // The line of a word that may not be there.
@@ -135,6 +142,7 @@ pub(crate) fn line_of(alloc: Global, error: ToolError<'_>) -> Result<String, All
     match error {
         ToolError::Refused(refusal) => shared_line_of(alloc, refusal),
         ToolError::NotTaken => String::from_str(alloc, "zztool: NotTaken\n"),
+        ToolError::TakesAway(boards) => takes_away_line(alloc, boards),
         ToolError::BadWord(word, expected) => bad_word_line(alloc, word, expected),
         ToolError::BadText(file, bad) => bad_text_line(alloc, file, bad),
     }

@@ -8,6 +8,7 @@ ghost use Rattle.zed_host.specs.Counting.{NothingFailed};
 ghost use Rattle.zed_host.specs.HostContents.{HostContents};
 ghost use Rattle.zed_terminal.specs.Devices.{AtMostOnce, once_more};
 ghost use Rattle.cmd_play.specs.Led.{devices, led};
+ghost use Rattle.zed_tool_words.specs.declared.asked.Forcing.{Forcing as ForcingWord};
 ghost use Rattle.zed_tool_words.specs.Commands.{AsksHelp, AsksVersion, Command as Asked, command_of, meaning_of};
 ghost use Rattle.zed_tool_words.specs.Version.{version_text};
 ghost use Rattle.zed_tool.specs.Answers.{answer_of, failure_of, memory};
@@ -18,20 +19,25 @@ ghost use Rattle.zed_tool.specs.Taking.{AsksToTake, TakesSet};
 ghost use Rattle.zed_tool.specs.Outcome.{Acted, Complained, Prints, Runs, TellsAloud, TellsOf};
 
 use crate::answers::played;
-use crate::asked::{forcing_of, form_of, going_of, length_of, listing_of, size_of, strictness_of};
-use crate::driving::{open_world, set_program, set_words, take_world, tell};
+use crate::asked::{
+    forcing_of, form_of, going_of, length_of, listing_of, others_of, size_of, strictness_of,
+    trial_of,
+};
+use crate::driving::{open_world, set_program, set_words, take_world, tell, undo};
 use crate::error::ToolError;
 use crate::lines::{line_of, plain_line};
 use cmd_log::{Filter, Lint, Log};
 use cmd_play::play;
-use cmd_program::Program;
+use cmd_program::{Program, Programs};
 use cmd_show::Show;
+use cmd_undo::{Manner, Source};
 use std::alloc::Global;
 use zed_editfile::one_reading;
 use zed_files::Refusal;
 use zed_host::Host;
 use zed_terminal::{Chance, Console, Inputs, Terminal};
 use zed_tool_words::{Command, ParseError, parse, version};
+use zed_undo::{Choice, Filter as Chosen};
 
 const MEMORY_LINE: &[u8] = b"zztool: Memory\n";
 
@@ -83,10 +89,14 @@ fn act<'a, H: Host, T: Terminal, I: Inputs, C: Chance>(
         } => open_world(alloc, host, *until, forcing_of(*forcing), *file, world),
         Command::Take {
             base,
+            forcing,
             file,
             replica,
             world,
-        } => take_world(alloc, host, *base, *file, *replica, world),
+        } => {
+            let forcing = forcing_of(*forcing);
+            take_world(alloc, host, *base, forcing, *file, *replica, world)
+        }
         Command::Log {
             length,
             board,
@@ -135,6 +145,57 @@ fn act<'a, H: Host, T: Terminal, I: Inputs, C: Chance>(
             let strictness = strictness_of(*strictness);
             tell(alloc, host, files.as_slice(), Lint { strictness })
         }
+        Command::Undo {
+            trial,
+            others,
+            file,
+            replica,
+            stamps,
+            board,
+            cell,
+            by,
+            since,
+            until,
+            last,
+        } => {
+            let filter = Chosen {
+                board: *board,
+                cell: *cell,
+                replica: *by,
+                since: *since,
+                until: *until,
+            };
+            let stamps = stamps.as_slice();
+            let last = *last;
+            let source = Source::Chosen(Choice {
+                filter,
+                stamps,
+                last,
+            });
+            let manner = Manner {
+                trial: trial_of(*trial),
+                others: others_of(*others),
+            };
+            undo(alloc, host, *file, *replica, manner, source)
+        }
+        Command::UndoPull {
+            trial,
+            others,
+            file,
+            replica,
+            new,
+            old,
+        } => {
+            let manner = Manner {
+                trial: trial_of(*trial),
+                others: others_of(*others),
+            };
+            let source = Source::Pulled {
+                new: *new,
+                old: *old,
+            };
+            undo(alloc, host, *file, *replica, manner, source)
+        }
         Command::Set {
             file,
             replica,
@@ -145,6 +206,7 @@ fn act<'a, H: Host, T: Terminal, I: Inputs, C: Chance>(
             let stat = *stat;
             tell(alloc, host, files.as_slice(), Program { board, stat })
         }
+        Command::Programs { files } => tell(alloc, host, files.as_slice(), Programs {}),
         Command::SetProgram {
             file,
             replica,
@@ -251,11 +313,12 @@ pub fn run<H: Host, T: Terminal, I: Inputs, C: Chance>(
 
     // However the words ask to take: where FILE and its base spell lists of edits of one world that agree, what counts is the set of the one
     // and of the other; edits are added to both that lead from what the base shows to WORLD.
-    ensures takes_sets { (t : HostContents) (name file : List ℕ) (replica number : ℕ)
-        (own based : List TheEdit) (shown : Contents)
-        → AsksToTake (map string_bytes words.now) t name file replica number own based shown
+    ensures takes_sets { (t : HostContents) (name file : List ℕ) (forcing : ForcingWord)
+        (replica number : ℕ) (own based : List TheEdit) (shown : Contents)
+        → AsksToTake (map string_bytes words.now) t name file forcing replica number own based
+        shown
         → H.contents host.old ≡ Some t → NothingFailed (H.faults host.old) (H.faults host.new)
-        → TakesSet name file t replica number (set_of own) (set_of based) shown result
+        → TakesSet name file t forcing replica number (set_of own) (set_of based) shown result
         (H.contents host.new) }
 
     // The status, whatever the host does.

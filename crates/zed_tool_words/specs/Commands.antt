@@ -1,5 +1,5 @@
 -- What the words of the command line ask for.
-use Rattle.std.specs.Prelude.{◌≡◌, ◌<◌, ◌&&◌, ℕ, Bool, true, false, List, [], ◌∷◌, Option, Some, None, codes, length, map, nat_le, nat_lt, if◌then◌else◌, option_and_then, option_map, string_bytes}
+use Rattle.std.specs.Prelude.{◌≡◌, ◌<◌, ◌==◌, ◌&&◌, ℕ, Bool, true, false, List, [], ◌∷◌, Option, is_none, Some, None, codes, length, map, nat_le, nat_lt, if◌then◌else◌, option_and_then, option_map, string_bytes}
 use Rattle.std.specs.Char.{is_ascii_digit}
 use Rattle.std.specs.List.{list_all}
 use Rattle.std.specs.Str.{bytes_eq}
@@ -8,7 +8,9 @@ use Rattle.clap.specs.Simple.{subcommand_of}
 use Rattle.clap.specs.Faults.{fault_of}
 use Rattle.clap.specs.Kinds.{IsAmong, Kinds}
 use Rattle.clap.specs.declared.error.kind.ErrorKind.TheVariants.{DisplayHelp, DisplayVersion}
+use Rattle.zed_types.specs.declared.stamp.Stamp.{Stamp}
 use Rattle.zed_words.specs.Commands.{number_of}
+use Rattle.zed_set_words.specs.Values.{stamp_of}
 use Rattle.zed_tool_words.specs.declared.asked.Forcing.{Forcing}
 use Rattle.zed_tool_words.specs.declared.asked.Forcing.TheVariants.{Careful, Forced}
 use Rattle.zed_tool_words.specs.declared.asked.Form.{Form}
@@ -21,16 +23,30 @@ use Rattle.zed_tool_words.specs.declared.asked.Listing.{Listing}
 use Rattle.zed_tool_words.specs.declared.asked.Listing.TheVariants.{Boards, Stats, Program}
 use Rattle.zed_tool_words.specs.declared.asked.Strictness.{Strictness}
 use Rattle.zed_tool_words.specs.declared.asked.Strictness.TheVariants.{Lenient, Strict}
+use Rattle.zed_tool_words.specs.declared.asked.Trial.{Trial}
+use Rattle.zed_tool_words.specs.declared.asked.Trial.TheVariants.{Real, Dry}
+use Rattle.zed_tool_words.specs.declared.asked.Others.{Others}
+use Rattle.zed_tool_words.specs.declared.asked.Others.TheVariants.{Spared, Included}
 use Rattle.zed_tool_words.specs.declared.asked.Command.{Command as Spoken}
 use Rattle.zed_tool_words.specs.declared.asked.Command.TheVariants as spoken
 use Rattle.zed_tool_words.specs.declared.words.ParseError.{ParseError}
 use Rattle.zed_tool_words.specs.declared.words.ParseError.TheVariants.{Memory, Refused, Help, Version}
 use Rattle.zed_tool_words.specs.Grammar.{tool_app}
 
+-- which edits are undone: those of these stamps, or of any if there is none, that pass all filters; and of these the last so many
+pub record Chosen : Type 0 where
+  pub stamps : List Stamp
+  pub board : Option ℕ
+  pub cell : Option (ℕ × ℕ × ℕ)
+  pub by : Option ℕ
+  pub since : Option ℕ
+  pub until : Option ℕ
+  pub last : Option ℕ
+
 -- a command with its words
 pub data Command : Type 0 where
   Open : (until : Option ℕ) → (forcing : Forcing) → (file : Text) → (world : Text) → Command
-  Take : (base : Option Text) → (file : Text) → (replica : ℕ) → (world : Text) → Command
+  Take : (base : Option Text) → (forcing : Forcing) → (file : Text) → (replica : ℕ) → (world : Text) → Command
   Log : (length : Length) → (board : Option ℕ) → (cell : Option (ℕ × ℕ × ℕ)) → (replica : Option ℕ) → (since : Option ℕ)
       → (files : List Text)
       → Command
@@ -38,22 +54,37 @@ pub data Command : Type 0 where
   Show : (form : Form) → (board : ℕ) → (files : List Text) → Command
   Play : (going : Going) → (rows : Option ℕ) → (words : Option Text) → (keys : Option Text) → (board : ℕ) → (files : List Text) → Command
   Lint : (strictness : Strictness) → (files : List Text) → Command
+  Undo : (trial : Trial) → (others : Others) → (file : Text) → (replica : ℕ) → (chosen : Chosen) → Command
+  UndoPull : (trial : Trial) → (others : Others) → (file : Text) → (replica : ℕ) → (new : Text) → (old : Text) → Command
   Set : (file : Text) → (replica : ℕ) → (words : List Text) → Command
   ProgramOf : (board : ℕ) → (stat : ℕ) → (files : List Text) → Command
+  Programs : (files : List Text) → Command
   SetProgram : (file : Text) → (replica : ℕ) → (board : ℕ) → (stat : ℕ) → (text : Text) → Command
 
 -- what a command of the code says
 abbrev pub meaning_of : Spoken → Command
 meaning_of (spoken.Open until forcing file world) = Open until forcing file.now world.now
-meaning_of (spoken.Take base file replica world) = Take (option_map (λ s. s.now) base) file.now replica world.now
+meaning_of (spoken.Take base forcing file replica world) = Take (option_map (λ s. s.now) base) forcing file.now replica world.now
 meaning_of (spoken.Log length board cell replica since files) = Log length board cell replica since (map (λ s. s.now) files.items)
 meaning_of (spoken.List listing files) = Lists listing (map (λ s. s.now) files.items)
 meaning_of (spoken.Show form board files) = Show form board (map (λ s. s.now) files.items)
 meaning_of (spoken.Play going rows words keys board files) =
     Play going rows (option_map (λ s. s.now) words) (option_map (λ s. s.now) keys) board (map (λ s. s.now) files.items)
 meaning_of (spoken.Lint strictness files) = Lint strictness (map (λ s. s.now) files.items)
+meaning_of (spoken.Undo trial others file replica stamps board cell by since until last) =
+    Undo trial others file.now replica (record {
+      stamps = stamps.items;
+      board = board;
+      cell = cell;
+      by = by;
+      since = since;
+      until = until;
+      last = last;
+    })
+meaning_of (spoken.UndoPull trial others file replica new old) = UndoPull trial others file.now replica new.now old.now
 meaning_of (spoken.Set file replica words) = Set file.now replica (map (λ s. s.now) words.items)
 meaning_of (spoken.Program board stat files) = ProgramOf board stat (map (λ s. s.now) files.items)
+meaning_of (spoken.Programs files) = Programs (map (λ s. s.now) files.items)
 meaning_of (spoken.SetProgram file replica board stat text) = SetProgram file.now replica board stat text.now
 
 -- whether this is the word that a flag has
@@ -105,7 +136,7 @@ open_of rows = option_and_then (λ file. option_map (λ world.
 -- for `take`
 abbrev pub take_of : List Row → Option Command
 take_of rows = option_and_then (λ file. option_and_then (λ replica. option_map (λ world.
-    Take (first_of (codes "base") rows) file replica world)
+    Take (first_of (codes "base") rows) (forcing_of rows) file replica world)
     (first_of (codes "WORLD") rows)) (option_number 16 (codes "REPLICA") rows)) (first_of (codes "FILE") rows)
 
 -- a number from one to another
@@ -172,6 +203,53 @@ play_of rows = option_and_then (λ board. option_map (λ files.
 abbrev pub lint_of : List Row → Option Command
 lint_of rows = option_map (λ files. Lint (strictness_of rows) files) (all_of (codes "FILES") rows)
 
+-- what `--dry-run` says
+abbrev pub trial_of : List Row → Trial
+trial_of rows = if has_flag (codes "dry-run") rows then Dry else Real
+
+-- what `--with-others` says
+abbrev pub others_of : List Row → Others
+others_of rows = if has_flag (codes "with-others") rows then Included else Spared
+
+-- the stamps that words spell, each one
+abbrev pub stamps_in : List Text → Option (List Stamp)
+stamps_in [] = Some []
+stamps_in (word ∷ words) = option_and_then (λ stamp. option_map (λ stamps. stamp ∷ stamps) (stamps_in words)) (stamp_of word)
+
+-- those of the words that may be there
+abbrev pub stamps_asked : Option (List Text) → Option (List Stamp)
+stamps_asked None = Some []
+stamps_asked (Some words) = stamps_in words
+
+-- the stamps and the filters, if stamps and a cell are such
+abbrev pub chosen_of : List Row → Option Chosen
+chosen_of rows = option_and_then (λ stamps. option_map (λ cell. record {
+  stamps = stamps;
+  board = option_number 16 (codes "board") rows;
+  cell = cell;
+  by = option_number 16 (codes "by") rows;
+  since = option_number 64 (codes "since") rows;
+  until = option_number 64 (codes "until") rows;
+  last = option_number 16 (codes "last") rows;
+}) (cell_asked (all_of (codes "cell") rows))) (stamps_asked (all_of (codes "STAMPS") rows))
+
+-- whether no edits are named: no stamp, no filter, no count
+abbrev pub names_none : Chosen → Bool
+names_none c = (length c.stamps == 0) && is_none c.board && is_none c.cell && is_none c.by && is_none c.since && is_none c.until && is_none c.last
+
+-- by the files of a pull, both or neither: edits are named either by these or otherwise
+abbrev pub undone_by : Trial → Others → Text → ℕ → Chosen → Option Text → Option Text → Option Command
+undone_by trial others file replica chosen None None = if names_none chosen then None else Some (Undo trial others file replica chosen)
+undone_by trial others file replica chosen (Some new) (Some old) =
+    if names_none chosen then Some (UndoPull trial others file replica new old) else None
+undone_by trial others file replica chosen new old = None
+
+-- for `undo`
+abbrev pub undo_of : List Row → Option Command
+undo_of rows = option_and_then (λ file. option_and_then (λ replica. option_and_then (λ chosen.
+    undone_by (trial_of rows) (others_of rows) file replica chosen (first_of (codes "edits-of") rows) (first_of (codes "but") rows))
+    (chosen_of rows)) (option_number 16 (codes "REPLICA") rows)) (first_of (codes "FILE") rows)
+
 -- for `set`
 abbrev pub set_of : List Row → Option Command
 set_of rows = option_and_then (λ file. option_and_then (λ replica. option_map (λ words.
@@ -200,10 +278,17 @@ set_program_words (file ∷ r ∷ b ∷ s ∷ text ∷ []) =
     SetProgram file replica board stat text) (number_of 16 s)) (number_of 16 b)) (number_of 16 r)
 set_program_words words = None
 
+-- by whether `--set` is there, and `--all`: not both
+abbrev pub program_by : Bool → Bool → List Text → Option Command
+program_by false false words = program_words words
+program_by true false words = set_program_words words
+program_by false true words = Some (Programs words)
+program_by true true words = None
+
 -- for `program`
 abbrev pub program_of : List Row → Option Command
 program_of rows = option_and_then (λ words.
-    if has_flag (codes "set") rows then set_program_words words else program_words words)
+    program_by (has_flag (codes "set") rows) (has_flag (codes "all") rows) words)
     (all_of (codes "WORDS") rows)
 
 -- by the name of the subcommand
@@ -216,8 +301,9 @@ subcommand_asks p =
     else (if bytes_eq p.0 (codes "show") then show_of p.1
     else (if bytes_eq p.0 (codes "play") then play_of p.1
     else (if bytes_eq p.0 (codes "lint") then lint_of p.1
+    else (if bytes_eq p.0 (codes "undo") then undo_of p.1
     else (if bytes_eq p.0 (codes "set") then set_of p.1
-    else (if bytes_eq p.0 (codes "program") then program_of p.1 else None))))))))
+    else (if bytes_eq p.0 (codes "program") then program_of p.1 else None)))))))))
 
 -- what is asked for where `clap` finds no fault
 abbrev pub unless_refused : Kinds → Option Command → Option Command

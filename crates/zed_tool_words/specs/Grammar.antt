@@ -1,5 +1,5 @@
 -- What `clap` is told of the words.
-use Rattle.std.specs.Prelude.{ℕ, List, [], ◌∷◌, Some, codes, fold, pos, true}
+use Rattle.std.specs.Prelude.{ℕ, List, [], ◌∷◌, ◌++◌, Some, codes, fold, pos, true}
 use Rattle.clap.specs.Simple.{App, Shape, new_app, new_rule, new_shape, on_top, with_subcommand}
 use Rattle.clap.specs.Walk.{Rule}
 use Rattle.clap.specs.Lexer.{usize_max}
@@ -15,6 +15,10 @@ abbrev pub several_rule : List ℕ → Rule
 several_rule id = record (required_rule id) {
   range = Some (record { start_inclusive = 1; end_inclusive = usize_max });
 }
+
+-- any number of words
+abbrev pub any_rule : List ℕ → Rule
+any_rule id = record (new_rule id) { range = Some (record { start_inclusive = 1; end_inclusive = usize_max }) }
 
 -- a word behind a name with two hyphens
 abbrev pub option_rule : List ℕ → Rule
@@ -53,10 +57,11 @@ abbrev pub open_shape : Shape
 open_shape = shape_with (codes "open")
     (required_rule (codes "FILE") ∷ required_rule (codes "WORLD") ∷ time_option (codes "until") ∷ flag_rule (codes "force") ∷ [])
 
--- `take [--base BASE] FILE REPLICA WORLD`
+-- `take [--force] [--base BASE] FILE REPLICA WORLD`
 abbrev pub take_shape : Shape
 take_shape = shape_with (codes "take")
-    (required_rule (codes "FILE") ∷ number_rule (codes "REPLICA") ∷ required_rule (codes "WORLD") ∷ option_rule (codes "base") ∷ [])
+    (required_rule (codes "FILE") ∷ number_rule (codes "REPLICA") ∷ required_rule (codes "WORLD") ∷ option_rule (codes "base")
+    ∷ flag_rule (codes "force") ∷ [])
 
 -- `log [--full] [--board B] [--cell B X Y] [--replica R] [--since TIME] FILES...`
 abbrev pub log_shape : Shape
@@ -83,13 +88,37 @@ play_shape = shape_with (codes "play")
 abbrev pub lint_shape : Shape
 lint_shape = shape_with (codes "lint") (several_rule (codes "FILES") ∷ flag_rule (codes "strict") ∷ [])
 
+-- `undo FILE REPLICA [STAMPS...]`, without what names edits otherwise
+abbrev pub undo_shape_of_file : Shape
+undo_shape_of_file = shape_with (codes "undo") (required_rule (codes "FILE") ∷ number_rule (codes "REPLICA") ∷ any_rule (codes "STAMPS") ∷ [])
+
+-- a subcommand with more arguments
+abbrev pub shape_and : Shape → List Rule → Shape
+shape_and s rules = record s { rules = s.rules ++ rules }
+
+-- with `[--board B] [--cell B X Y] [--by R]`
+abbrev pub undo_shape_by_place : Shape
+undo_shape_by_place = shape_and undo_shape_of_file (number_option (codes "board") ∷ cell_rule ∷ number_option (codes "by") ∷ [])
+
+-- with `[--since TIME] [--until TIME] [--last N]`
+abbrev pub undo_shape_by_time : Shape
+undo_shape_by_time = shape_and undo_shape_by_place (time_option (codes "since") ∷ time_option (codes "until") ∷ number_option (codes "last") ∷ [])
+
+-- with `[--edits-of NEW] [--but OLD]`
+abbrev pub undo_shape_of_pull : Shape
+undo_shape_of_pull = shape_and undo_shape_by_time (option_rule (codes "edits-of") ∷ option_rule (codes "but") ∷ [])
+
+-- with `[--dry-run] [--with-others]`: the whole of `undo`
+abbrev pub undo_shape : Shape
+undo_shape = shape_and undo_shape_of_pull (flag_rule (codes "dry-run") ∷ flag_rule (codes "with-others") ∷ [])
+
 -- `set FILE REPLICA WORDS...`
 abbrev pub set_shape : Shape
 set_shape = shape_with (codes "set") (required_rule (codes "FILE") ∷ number_rule (codes "REPLICA") ∷ trailing_rule (codes "WORDS") ∷ [])
 
--- `program B S FILES...` and `program --set FILE REPLICA B S TEXT`, where numbers and files are words alike
+-- `program B S FILES...`, `program --all FILES...` and `program --set FILE REPLICA B S TEXT`, where numbers and files are words alike
 abbrev pub program_shape : Shape
-program_shape = shape_with (codes "program") (several_rule (codes "WORDS") ∷ flag_rule (codes "set") ∷ [])
+program_shape = shape_with (codes "program") (several_rule (codes "WORDS") ∷ flag_rule (codes "set") ∷ flag_rule (codes "all") ∷ [])
 
 -- the program without its subcommands; it has a version, and without words it is refused, with a text of help
 abbrev pub top_app : App
@@ -98,4 +127,4 @@ top_app = on_top (λ s. record s { no_binary_name = true; arg_required_else_help
 -- the whole command line
 abbrev pub tool_app : App
 tool_app = fold with_subcommand top_app
-    (open_shape ∷ take_shape ∷ log_shape ∷ list_shape ∷ show_shape ∷ play_shape ∷ lint_shape ∷ set_shape ∷ program_shape ∷ [])
+    (open_shape ∷ take_shape ∷ log_shape ∷ list_shape ∷ show_shape ∷ play_shape ∷ lint_shape ∷ undo_shape ∷ set_shape ∷ program_shape ∷ [])

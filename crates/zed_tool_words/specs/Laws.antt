@@ -13,6 +13,7 @@ HelpOfCommands =
     × AsksHelp (codes "log" ∷ codes "--help" ∷ []) × AsksHelp (codes "list" ∷ codes "--help" ∷ [])
     × AsksHelp (codes "show" ∷ codes "--help" ∷ []) × AsksHelp (codes "play" ∷ codes "--help" ∷ [])
     × AsksHelp (codes "lint" ∷ codes "--help" ∷ []) × AsksHelp (codes "set" ∷ codes "--help" ∷ [])
+    × AsksHelp (codes "undo" ∷ codes "--help" ∷ [])
     × AsksHelp (codes "program" ∷ codes "--help" ∷ [])
 
 -- `--version` asks for the version

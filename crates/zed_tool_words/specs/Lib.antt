@@ -1,4 +1,5 @@
 pub mod Commands
 pub mod Grammar
 pub mod Laws
+pub mod Undone
 pub mod Version

@@ -1,11 +1,13 @@
 //! What words may ask for.
+use zed_types::Stamp;
 
-/// What `open` does to a world file that was drawn in.
+/// What a command does where work would be lost: `open` where a world file was drawn in and not
+/// taken, and `take` where most boards are gone.
 #[derive(Clone, Copy)]
 pub enum Forcing {
-    /// It keeps the drawing.
+    /// It refuses.
     Careful,
-    /// It replaces the drawing: `--force`.
+    /// It does it all the same: `--force`.
     Forced,
 }
 
@@ -58,6 +60,24 @@ pub enum Listing {
     Program(u16, u16),
 }
 
+/// Whether `undo` writes what it does.
+#[derive(Clone, Copy)]
+pub enum Trial {
+    /// It does.
+    Real,
+    /// It only lists what would go: `--dry-run`.
+    Dry,
+}
+
+/// What `undo` does with what other authors built on the edits.
+#[derive(Clone, Copy)]
+pub enum Others {
+    /// It refuses where there is some.
+    Spared,
+    /// It undoes that too: `--with-others`.
+    Included,
+}
+
 /// What is to be done.
 #[derive(Drop)]
 pub enum Command<'a> {
@@ -73,6 +93,7 @@ pub enum Command<'a> {
     Take {
         /// The edit file of the world before it was drawn in.
         base: Option<&'a str>,
+        forcing: Forcing,
         file: &'a str,
         replica: u16,
         world: &'a str,
@@ -115,6 +136,32 @@ pub enum Command<'a> {
         strictness: Strictness,
         files: Vec<&'a str>,
     },
+    /// Undo chosen edits of an edit file by new edits of an author: those that pass all that is given.
+    Undo {
+        trial: Trial,
+        others: Others,
+        file: &'a str,
+        replica: u16,
+        /// The edits of these stamps, or of any, if there is none.
+        stamps: Vec<Stamp>,
+        board: Option<u16>,
+        /// The number of a board, then X from 1 to 60 and Y from 1 to 25.
+        cell: Option<(u16, u16, u16)>,
+        by: Option<u16>,
+        since: Option<u64>,
+        until: Option<u64>,
+        /// The last so many of those that pass all others.
+        last: Option<u16>,
+    },
+    /// Undo the edits that one edit file has and another one has not, by new edits of an author.
+    UndoPull {
+        trial: Trial,
+        others: Others,
+        file: &'a str,
+        replica: u16,
+        new: &'a str,
+        old: &'a str,
+    },
     /// Set what these words say in an edit file, as edits of an author.
     Set {
         file: &'a str,
@@ -125,6 +172,10 @@ pub enum Command<'a> {
     Program {
         board: u16,
         stat: u16,
+        files: Vec<&'a str>,
+    },
+    /// Print all programs in the world of edit files.
+    Programs {
         files: Vec<&'a str>,
     },
     /// Make the text of a file the program of a stat in an edit file, as edits of an author.

@@ -2,7 +2,7 @@
 ghost use Rattle.std.specs.Prelude.{◌≡◌, codes, false, IfOk};
 ghost use Rattle.clap.specs.Words.{app_of, new_app, rule_of, shape_of, with_rule, with_subcommand};
 ghost use Rattle.clap.specs.declared.builder.command.Command.TheViews.{out-Command};
-ghost use Rattle.zed_tool_words.specs.Grammar.{cell_rule, flag_rule, lint_shape, list_shape, log_shape, number_option, number_rule, open_shape, option_rule, play_shape, program_shape, required_rule, set_shape, several_rule, show_shape, take_shape, time_option, tool_app, top_app, trailing_rule};
+ghost use Rattle.zed_tool_words.specs.Grammar.{any_rule, cell_rule, flag_rule, lint_shape, list_shape, log_shape, number_option, number_rule, open_shape, option_rule, play_shape, program_shape, required_rule, set_shape, several_rule, show_shape, take_shape, time_option, tool_app, top_app, trailing_rule, undo_shape, undo_shape_by_place, undo_shape_by_time, undo_shape_of_file, undo_shape_of_pull};
 
 use crate::release::VERSION;
 use clap::{Arg, ArgAction, Command};
@@ -25,6 +25,14 @@ fn several_argument<'a>(alloc: Global, name: &'a str, help: &'a str) -> Arg<'a>
         .required(true)
         .num_args(1..)
         .help(help)
+}
+
+// Any number of words.
+fn any_argument<'a>(alloc: Global, name: &'a str, help: &'a str) -> Arg<'a>
+    ensures rule { rule_of result ≡ any_rule name.entry.now }
+    ensures local { result.global ≡ false }
+{
+    Arg::new(alloc, name).num_args(1..).help(help)
 }
 
 // A word behind a name with two hyphens.
@@ -92,14 +100,14 @@ fn replica_argument<'a>(alloc: Global) -> Arg<'a>
     )
 }
 
-fn cell_argument<'a>(alloc: Global) -> Arg<'a>
+fn cell_argument<'a>(alloc: Global, help: &'a str) -> Arg<'a>
     ensures rule { rule_of result ≡ cell_rule }
     ensures local { result.global ≡ false }
 {
     Arg::new(alloc, "cell")
         .long("cell")
         .value_names(&["B", "X", "Y"])
-        .help("List only edits of this cell of board B: X is 1 to 60, Y 1 to 25")
+        .help(help)
 }
 
 // Edit files that are read.
@@ -158,7 +166,7 @@ fn open_command<'a>(alloc: Global) -> Result<Command<'a>, AllocError>
     )
 }
 
-/// `take [--base BASE] FILE REPLICA WORLD`
+/// `take [--force] [--base BASE] FILE REPLICA WORLD`
 fn take_command<'a>(alloc: Global) -> Result<Command<'a>, AllocError>
     ensures shape { IfOk result (λ c. shape_of c ≡ take_shape) }
     ensures local { IfOk result (λ c. (out-Command c).has_globals ≡ false) }
@@ -177,13 +185,21 @@ fn take_command<'a>(alloc: Global) -> Result<Command<'a>, AllocError>
         command,
         required_argument(alloc, "WORLD", "The world file that was drawn in"),
     )?;
-    with_argument(
+    let command = with_argument(
         command,
         option_argument(
             alloc,
             "base",
             "BASE",
             "The edits that WORLD was drawn from, which get the new ones too; by default WORLD.base, or FILE if there is none",
+        ),
+    )?;
+    with_argument(
+        command,
+        flag_argument(
+            alloc,
+            "force",
+            "Take it even if more than half of the boards beside the title are gone",
         ),
     )
 }
@@ -212,7 +228,13 @@ fn log_command<'a>(alloc: Global) -> Result<Command<'a>, AllocError>
             "List only edits of the board of this number, 0 for the title",
         ),
     )?;
-    let command = with_argument(command, cell_argument(alloc))?;
+    let command = with_argument(
+        command,
+        cell_argument(
+            alloc,
+            "List only edits of this cell of board B: X is 1 to 60, Y 1 to 25",
+        ),
+    )?;
     let command = with_argument(
         command,
         number_argument(
@@ -350,6 +372,120 @@ fn lint_command<'a>(alloc: Global) -> Result<Command<'a>, AllocError>
     )
 }
 
+// `undo` with the edit file, the author and the stamps.
+fn undo_of_file<'a>(alloc: Global) -> Result<Command<'a>, AllocError>
+    ensures shape { IfOk result (λ c. shape_of c ≡ undo_shape_of_file) }
+    ensures local { IfOk result (λ c. (out-Command c).has_globals ≡ false) }
+{
+    let command = bare_command(
+        alloc,
+        "undo",
+        "Undo chosen edits by new edits of an author: the world is then that of all other edits",
+    );
+    let command = with_argument(
+        command,
+        required_argument(alloc, "FILE", "The edit file to add to"),
+    )?;
+    let command = with_argument(command, replica_argument(alloc))?;
+    with_argument(
+        command,
+        any_argument(
+            alloc,
+            "STAMPS",
+            "The edits of these stamps, TIME.REPLICA as log prints them, such as 6.1",
+        ),
+    )
+}
+
+// The same with the filters that name edits by place and author.
+fn undo_by_place<'a>(alloc: Global) -> Result<Command<'a>, AllocError>
+    ensures shape { IfOk result (λ c. shape_of c ≡ undo_shape_by_place) }
+    ensures local { IfOk result (λ c. (out-Command c).has_globals ≡ false) }
+{
+    let command = undo_of_file(alloc)?;
+    let command = with_argument(
+        command,
+        number_argument(alloc, "board", "B", "Edits of the board of this number"),
+    )?;
+    let command = with_argument(
+        command,
+        cell_argument(
+            alloc,
+            "Edits of this cell of board B: X is 1 to 60, Y 1 to 25",
+        ),
+    )?;
+    with_argument(
+        command,
+        number_argument(alloc, "by", "R", "Edits of the author of this number"),
+    )
+}
+
+// The same with those that name them by time and count.
+fn undo_by_time<'a>(alloc: Global) -> Result<Command<'a>, AllocError>
+    ensures shape { IfOk result (λ c. shape_of c ≡ undo_shape_by_time) }
+    ensures local { IfOk result (λ c. (out-Command c).has_globals ≡ false) }
+{
+    let command = undo_by_place(alloc)?;
+    let command = with_argument(
+        command,
+        time_argument(alloc, "since", "Edits of this time or later"),
+    )?;
+    let command = with_argument(
+        command,
+        time_argument(alloc, "until", "Edits of this time or earlier"),
+    )?;
+    with_argument(
+        command,
+        number_argument(
+            alloc,
+            "last",
+            "N",
+            "The last N of the edits that pass all other words",
+        ),
+    )
+}
+
+// The same with the files of a pull.
+fn undo_of_pull<'a>(alloc: Global) -> Result<Command<'a>, AllocError>
+    ensures shape { IfOk result (λ c. shape_of c ≡ undo_shape_of_pull) }
+    ensures local { IfOk result (λ c. (out-Command c).has_globals ≡ false) }
+{
+    let command = undo_by_time(alloc)?;
+    let command = with_argument(
+        command,
+        option_argument(
+            alloc,
+            "edits-of",
+            "NEW",
+            "With --but OLD: the edits that NEW has and OLD has not, such as what one pull brought",
+        ),
+    )?;
+    with_argument(
+        command,
+        option_argument(alloc, "but", "OLD", "The edit file from before"),
+    )
+}
+
+/// `undo [--dry-run] [--with-others] FILE REPLICA CHOICE...`
+fn undo_command<'a>(alloc: Global) -> Result<Command<'a>, AllocError>
+    ensures shape { IfOk result (λ c. shape_of c ≡ undo_shape) }
+    ensures local { IfOk result (λ c. (out-Command c).has_globals ≡ false) }
+{
+    let command = undo_of_pull(alloc)?;
+    let command = with_argument(
+        command,
+        flag_argument(alloc, "dry-run", "List what would go, and write nothing"),
+    )?;
+    with_argument(
+        command,
+        flag_argument(
+            alloc,
+            "with-others",
+            "Undo also what other authors built on these edits",
+        ),
+    )
+}
+
 /// `set FILE REPLICA WORDS...`
 fn set_command<'a>(alloc: Global) -> Result<Command<'a>, AllocError>
     ensures shape { IfOk result (λ c. shape_of c ≡ set_shape) }
@@ -375,7 +511,7 @@ fn set_command<'a>(alloc: Global) -> Result<Command<'a>, AllocError>
     )
 }
 
-/// `program B S FILES...`, or `program --set FILE REPLICA B S TEXT`
+/// `program B S FILES...`, `program --all FILES...`, or `program --set FILE REPLICA B S TEXT`
 fn program_command<'a>(alloc: Global) -> Result<Command<'a>, AllocError>
     ensures shape { IfOk result (λ c. shape_of c ≡ program_shape) }
     ensures local { IfOk result (λ c. (out-Command c).has_globals ≡ false) }
@@ -383,19 +519,27 @@ fn program_command<'a>(alloc: Global) -> Result<Command<'a>, AllocError>
     let command = bare_command(
         alloc,
         "program",
-        "Print the program of a stat: program B S FILES; or replace it with the text of a file, as edits of an author: program --set FILE REPLICA B S TEXT",
+        "Print the program of a stat: program B S FILES, or all: program --all FILES; or replace it with the text of a file, as edits of an author: program --set FILE REPLICA B S TEXT",
     );
     let command = with_argument(
         command,
         several_argument(
             alloc,
             "WORDS",
-            "The numbers of a board (0: the title) and of its stat (0: the player), as list prints them, and edit files; with --set an edit file, the author's number, both numbers, and a text file",
+            "The numbers of a board (0: the title) and of its stat (0: the player), as list prints them, and edit files; with --all edit files; with --set an edit file, the author's number, both numbers, and a text file",
         ),
+    )?;
+    let command = with_argument(
+        command,
+        flag_argument(alloc, "set", "Replace the program with the text of a file"),
     )?;
     with_argument(
         command,
-        flag_argument(alloc, "set", "Replace the program with the text of a file"),
+        flag_argument(
+            alloc,
+            "all",
+            "Print every program, each behind a line that tells where it is",
+        ),
     )
 }
 
@@ -434,6 +578,7 @@ pub(crate) fn tool_command<'a>(alloc: Global) -> Result<Command<'a>, AllocError>
     let program = with_command(program, show_command(alloc)?)?;
     let program = with_command(program, play_command(alloc)?)?;
     let program = with_command(program, lint_command(alloc)?)?;
+    let program = with_command(program, undo_command(alloc)?)?;
     let program = with_command(program, set_command(alloc)?)?;
     with_command(program, program_command(alloc)?)
 }

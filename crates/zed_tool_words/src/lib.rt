@@ -7,9 +7,10 @@ mod laws;
 mod listed;
 mod programs;
 mod release;
+mod undone;
 mod words;
 
-pub use asked::{Command, Forcing, Form, Going, Length, Listing, Strictness};
+pub use asked::{Command, Forcing, Form, Going, Length, Listing, Others, Strictness, Trial};
 pub use laws::{help_words, version_words};
 pub use release::version;
 pub use words::{ParseError, parse};

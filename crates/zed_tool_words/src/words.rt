@@ -4,12 +4,14 @@ ghost use Rattle.clap.specs.Walk.{all_of, first_of, one_of};
 ghost use Rattle.clap.specs.Words.{FailsBy, fault_of, found_of, rows_of, subcommand_of, subcommand_rows_of};
 ghost use Rattle.zed_tool_words.specs.declared.words.ParseError.TheVariants.{Memory};
 ghost use Rattle.zed_tool_words.specs.Grammar.{tool_app};
-ghost use Rattle.zed_tool_words.specs.Commands.{AsksNothing, IsAloud, command_of, forcing_of, form_of, going_of, has_flag as has_that_flag, length_of, lint_of, list_of, log_of, meaning_of, open_of, option_number, play_of, program_of, set_of, show_of, strictness_of, subcommand_asks, take_of};
+ghost use Rattle.zed_tool_words.specs.Commands.{AsksNothing, IsAloud, command_of, forcing_of, form_of, going_of, has_flag as has_that_flag, length_of, lint_of, list_of, log_of, meaning_of, open_of, option_number, play_of, program_by, program_of, set_of, show_of, strictness_of, subcommand_asks, take_of, trial_of, others_of, undo_of, chosen_of};
+ghost use Rattle.zed_tool_words.specs.Undone.{meaning};
 
-use crate::asked::{Command, Forcing, Form, Going, Length, Strictness};
+use crate::asked::{Command, Forcing, Form, Going, Length, Others, Strictness, Trial};
 use crate::grammar::tool_command;
 use crate::listed::{cell_in, listed};
 use crate::programs::{program, program_to_set};
+use crate::undone::{Choice, stamps_asked, undone};
 use clap::error::ErrorKind;
 use clap::{ArgMatches, Error};
 use std::alloc::{AllocError, Global};
@@ -24,7 +26,10 @@ const TWO_FORMS: &str =
     "error: '--plain' and '--svg' can't both be there\n\nFor more information, try '--help'.\n";
 
 const NO_PROGRAM: &str =
-    "error: 'program' takes the numbers of a board and of a stat, up to 65535, and a file behind them; with '--set' FILE REPLICA B S TEXT\n\nFor more information, try '--help'.\n";
+    "error: 'program' takes the numbers of a board and of a stat, up to 65535, and a file behind them; with '--all' files alone; with '--set' FILE REPLICA B S TEXT\n\nFor more information, try '--help'.\n";
+
+const NO_CHOICE: &str =
+    "error: 'undo' takes what to undo behind FILE REPLICA: stamps as 6.1, filters, or --edits-of NEW --but OLD alone; behind '--cell' B is the number of a board, X is 1 to 60 and Y is 1 to 25\n\nFor more information, try '--help'.\n";
 
 // What the user is told where clap has no text for words that it refuses.
 const NO_COMMAND: &str =
@@ -103,6 +108,28 @@ fn going_in(matches: &ArgMatches<'_>) -> Going
     }
 }
 
+// Whether `undo` writes what it does.
+fn trial_in(matches: &ArgMatches<'_>) -> Trial
+    ensures { result ≡ trial_of (rows_of (found_of matches.now)) }
+{
+    if has_flag(matches, "dry-run") {
+        Trial::Dry
+    } else {
+        Trial::Real
+    }
+}
+
+// What it does with what others built on the edits.
+fn others_in(matches: &ArgMatches<'_>) -> Others
+    ensures { result ≡ others_of (rows_of (found_of matches.now)) }
+{
+    if has_flag(matches, "with-others") {
+        Others::Included
+    } else {
+        Others::Spared
+    }
+}
+
 // Whether what is found makes the command fail.
 fn strictness_in(matches: &ArgMatches<'_>) -> Strictness
     ensures { result ≡ strictness_of (rows_of (found_of matches.now)) }
@@ -169,12 +196,14 @@ fn take_in<'a>(matches: &ArgMatches<'a>) -> Option<Command<'a>>
     ensures { option_map meaning_of result ≡ take_of (rows_of (found_of matches.now)) }
 {
     let base = word_in(matches, "base");
+    let forcing = forcing_in(matches);
     let file = word_in(matches, "FILE");
     let replica = number_in(matches, "REPLICA");
     let world = word_in(matches, "WORLD");
     if let (Some(file), Some(replica), Some(world)) = (file, replica, world) {
         Some(Command::Take {
             base,
+            forcing,
             file,
             replica,
             world,
@@ -272,6 +301,50 @@ fn lint_in<'a>(alloc: Global, matches: &ArgMatches<'a>) -> Result<Option<Command
     }
 }
 
+// The edits that the words name otherwise than by the files of a pull, if stamps and a cell are such.
+fn choice_in(alloc: Global, matches: &ArgMatches<'_>) -> Result<Option<Choice>, AllocError>
+    ensures { IfOk result (λ c.
+        option_map meaning c ≡ chosen_of (rows_of (found_of matches.now))) }
+{
+    let board = number_in(matches, "board");
+    let by = number_in(matches, "by");
+    let since = time_in(matches, "since");
+    let until = time_in(matches, "until");
+    let last = number_in(matches, "last");
+    let stamps = stamps_asked(alloc, words_in(matches, "STAMPS"))?;
+    let cell = cell_in(words_in(matches, "cell"));
+    if let (Some(stamps), Some(cell)) = (stamps, cell) {
+        Ok(Some(Choice {
+            stamps,
+            board,
+            cell,
+            by,
+            since,
+            until,
+            last,
+        }))
+    } else {
+        Ok(None)
+    }
+}
+
+fn undo_in<'a>(alloc: Global, matches: &ArgMatches<'a>) -> Result<Option<Command<'a>>, AllocError>
+    ensures { IfOk result (λ a.
+        option_map meaning_of a ≡ undo_of (rows_of (found_of matches.now))) }
+{
+    let trial = trial_in(matches);
+    let others = others_in(matches);
+    let file = word_in(matches, "FILE");
+    let replica = number_in(matches, "REPLICA");
+    let pull = (word_in(matches, "edits-of"), word_in(matches, "but"));
+    let choice = choice_in(alloc, matches)?;
+    if let (Some(file), Some(replica), Some(choice)) = (file, replica, choice) {
+        Ok(undone(trial, others, file, replica, choice, pull))
+    } else {
+        Ok(None)
+    }
+}
+
 fn set_in<'a>(alloc: Global, matches: &ArgMatches<'a>) -> Result<Option<Command<'a>>, AllocError>
     ensures { IfOk result (λ a.
         option_map meaning_of a ≡ set_of (rows_of (found_of matches.now))) }
@@ -291,6 +364,27 @@ fn set_in<'a>(alloc: Global, matches: &ArgMatches<'a>) -> Result<Option<Command<
     }
 }
 
+// A program, all programs, or the text of one.
+fn program_asked<'a>(
+    alloc: Global,
+    sets: bool,
+    all: bool,
+    words: &[&'a str],
+) -> Result<Option<Command<'a>>, AllocError>
+    ensures { IfOk result (λ a.
+        option_map meaning_of a ≡ program_by sets all (map (λ s. s.now) words.now)) }
+{
+    match (sets, all) {
+        (false, false) => program(alloc, words),
+        (true, false) => Ok(program_to_set(words)),
+        (false, true) => {
+            let files = Vec::from_slice(alloc, words)?;
+            Ok(Some(Command::Programs { files }))
+        }
+        (true, true) => Ok(None),
+    }
+}
+
 fn program_in<'a>(
     alloc: Global,
     matches: &ArgMatches<'a>,
@@ -298,14 +392,10 @@ fn program_in<'a>(
     ensures { IfOk result (λ a.
         option_map meaning_of a ≡ program_of (rows_of (found_of matches.now))) }
 {
+    let sets = has_flag(matches, "set");
+    let all = has_flag(matches, "all");
     match words_in(matches, "WORDS") {
-        Some(words) => {
-            if has_flag(matches, "set") {
-                Ok(program_to_set(words))
-            } else {
-                program(alloc, words)
-            }
-        }
+        Some(words) => program_asked(alloc, sets, all, words),
         None => Ok(None),
     }
 }
@@ -334,6 +424,8 @@ fn command_named<'a>(
         play_in(alloc, inner)
     } else if name == "lint" {
         lint_in(alloc, inner)
+    } else if name == "undo" {
+        undo_in(alloc, inner)
     } else if name == "set" {
         set_in(alloc, inner)
     } else if name == "program" {
@@ -359,6 +451,7 @@ fn no_command(alloc: Global, matches: &ArgMatches<'_>) -> Result<String, AllocEr
         Some("list") => String::from_str(alloc, NO_FILES),
         Some("show") => String::from_str(alloc, TWO_FORMS),
         Some("program") => String::from_str(alloc, NO_PROGRAM),
+        Some("undo") => String::from_str(alloc, NO_CHOICE),
         _ => String::from_str(alloc, NO_CELL),
     }
 }

@@ -93,13 +93,19 @@ fn prepare(rt: &HostRuntime, words: &[String], host: &mut SystemHost) -> io::Res
             }
             keeps(host, chance, &others)
         }
-        Ok(Command::Set { file, .. } | Command::SetProgram { file, .. }) => holds(host, file),
+        Ok(
+            Command::Undo { file, .. }
+            | Command::UndoPull { file, .. }
+            | Command::Set { file, .. }
+            | Command::SetProgram { file, .. },
+        ) => holds(host, file),
         Ok(
             Command::Log { .. }
             | Command::List { .. }
             | Command::Show { .. }
             | Command::Lint { .. }
-            | Command::Program { .. },
+            | Command::Program { .. }
+            | Command::Programs { .. },
         ) => Ok(()),
         Err(ParseError::Refused(_) | ParseError::Help(_) | ParseError::Version) => Ok(()),
         Err(ParseError::Memory) => Err(io::Error::from(ErrorKind::OutOfMemory)),

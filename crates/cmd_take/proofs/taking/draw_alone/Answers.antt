@@ -19,16 +19,8 @@ returns-in_err-edits c =
           ap (λ y. Err y) first;
     })
 
-pub deliver-requires : goal.deliver-requires
-deliver-requires c = record { fit = c.in_ok-edits.ensures.fit; joins = c.in_ok-edits.ensures.file_joins; sound = c.requires }
-
-pub returns-in_err-deliver : goal.returns-in_err-deliver
-returns-in_err-deliver c =
-    let p = err_from_is_err_and c.from_residual-in_err-deliver.result c.from_residual-in_err-deliver.ensures.1 in
-    rw p.1 (record {
-      draws = λ base. inl p.2;
-      refused = λ x is. absurd (let no = c.in_ok-edits.ensures.refused x is in cc);
-    })
+pub add_alone-requires : goal.add_alone-requires
+add_alone-requires c = record { fit = c.in_ok-edits.ensures.fit; joins = c.in_ok-edits.ensures.file_joins; sound = c.requires }
 
 pub returns-in_err-effect : goal.returns-in_err-effect
 returns-in_err-effect c =
@@ -41,8 +33,7 @@ returns-in_err-effect c =
 pub returns : goal.returns
 returns c = record {
   draws = λ base.
-      alone_ends base c.args.file.now c.args.replica c.args.document.now c.deliver.new.document c.args.world.now c.in_ok-edits.edits.items c.count_of-had.result c.taken_of-taken.result
-      c.in_ok-effect.effect c.in_ok-edits.ensures.taken c.in_ok-deliver.ensures.edits c.in_ok-deliver.ensures.world c.count_of-had.ensures c.taken_of-taken.ensures
-      c.in_ok-effect.ensures;
+      alone_ends base c.args.file.now c.args.replica c.args.document.now c.args.world.now c.in_ok-edits.edits.items c.count_of-had.result c.in_ok-effect.effect
+      c.in_ok-edits.ensures.taken c.count_of-had.ensures c.in_ok-effect.ensures;
   refused = λ x is. absurd (let no = c.in_ok-edits.ensures.refused x is in cc);
 }

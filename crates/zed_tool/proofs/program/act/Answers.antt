@@ -1,7 +1,7 @@
 use Rattle.zed_driver.specs.Hosts.{hosts}
 use Rattle.zed_tool.specs.Commands.{filter_of}
 use Rattle.zed_tool.proofs.Driven.{acted, told_tells}
-use Rattle.zed_tool.proofs.Lacking.{lints_not, lists_not, logs_not, prints_not, shows_not}
+use Rattle.zed_tool.proofs.Lacking.{every_not, lints_not, lists_not, logs_not, prints_not, shows_not}
 use Rattle.zed_tool.proofs.program.act.Goals as goal
 
 pub returns-in-Open-clause-acted : goal.returns-in-Open-clause-acted
@@ -13,7 +13,7 @@ returns-in-Open-clause-acted g c =
 pub returns-in-Take-clause-acted : goal.returns-in-Take-clause-acted
 returns-in-Take-clause-acted g c =
     let is = c.take_world.ensures in
-    let so = is in
+    let so = rw (c.forcing_of-forcing.ensures) at is in
     rw c.in-Take.is (acted _ _ _ _ _ _ so)
 
 pub tell-requires : goal.tell-requires
@@ -61,6 +61,27 @@ returns-in-Program-clause-acted g c =
     let is = c.tell-in-Program.ensures in
     let so = rw (c.as_slice-in-Program.ensures.value) at is in
     rw c.in-Program.is (acted _ _ _ _ _ _ so)
+
+pub tell-requires-in-Programs : goal.tell-requires-in-Programs
+tell-requires-in-Programs g c = every_not
+
+pub returns-in-Programs-clause-acted : goal.returns-in-Programs-clause-acted
+returns-in-Programs-clause-acted g c =
+    let is = c.tell-in-Programs.ensures in
+    let so = rw (c.as_slice-in-Programs.ensures.value) at is in
+    rw c.in-Programs.is (acted _ _ _ _ _ _ so)
+
+pub returns-in-Undo-clause-acted : goal.returns-in-Undo-clause-acted
+returns-in-Undo-clause-acted g c =
+    let is = c.undo.ensures in
+    let so = rw (c.trial_of.ensures, c.others_of.ensures, c.as_slice-stamps.ensures.value) at is in
+    rw c.in-Undo.is (acted _ _ _ _ _ _ so)
+
+pub returns-in-UndoPull-clause-acted : goal.returns-in-UndoPull-clause-acted
+returns-in-UndoPull-clause-acted g c =
+    let is = c.undo-in-UndoPull.ensures in
+    let so = rw (c.trial_of-in-UndoPull.ensures, c.others_of-in-UndoPull.ensures) at is in
+    rw c.in-UndoPull.is (acted _ _ _ _ _ _ so)
 
 pub returns-in-Set-clause-acted : goal.returns-in-Set-clause-acted
 returns-in-Set-clause-acted g c =

@@ -37,6 +37,6 @@ returns-clause-refused g c = λ two.
     run_refused h _ (map string_bytes c.args.words.now) c.run_words.result _ _ two c.run_words.ensures.runs
 
 pub returns-clause-takes_sets : goal.returns-clause-takes_sets
-returns-clause-takes_sets g c = λ t name file replica number own based shown asks at calm.
-    run_takes (written_is_read c.one_reading.ensures.one c.one_reading.ensures.file) (map string_bytes c.args.words.now) t name file replica number own based shown c.run_words.result _ asks
-    (returns-clause-ends_calmly g c t (Take asks.base file replica asks.world) asks.asks at calm)
+returns-clause-takes_sets g c = λ t name file forcing replica number own based shown asks at calm.
+    run_takes (written_is_read c.one_reading.ensures.one c.one_reading.ensures.file) (map string_bytes c.args.words.now) t name file forcing replica number own based shown c.run_words.result _ asks
+    (returns-clause-ends_calmly g c t (Take asks.base forcing file replica asks.world) asks.asks at calm)

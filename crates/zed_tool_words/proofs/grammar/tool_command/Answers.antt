@@ -12,5 +12,6 @@ returns c =
     let five = c.in_ok-program-6.ensures ∙ ap₂ with_subcommand four c.in_ok-show_command.ensures.shape in
     let six = c.in_ok-program-7.ensures ∙ ap₂ with_subcommand five c.in_ok-play_command.ensures.shape in
     let seven = c.in_ok-program-8.ensures ∙ ap₂ with_subcommand six c.in_ok-lint_command.ensures.shape in
-    let eight = c.in_ok-program-9.ensures ∙ ap₂ with_subcommand seven c.in_ok-set_command.ensures.shape in
-    IfOk-weaker c.with_command-9.result _ _ (λ r h. h ∙ ap₂ with_subcommand eight c.in_ok-program_command.ensures.shape) c.with_command-9.ensures
+    let eight = c.in_ok-program-9.ensures ∙ ap₂ with_subcommand seven c.in_ok-undo_command.ensures.shape in
+    let nine = c.in_ok-program-10.ensures ∙ ap₂ with_subcommand eight c.in_ok-set_command.ensures.shape in
+    IfOk-weaker c.with_command-10.result _ _ (λ r h. h ∙ ap₂ with_subcommand nine c.in_ok-program_command.ensures.shape) c.with_command-10.ensures

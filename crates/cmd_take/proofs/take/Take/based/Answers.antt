@@ -16,7 +16,7 @@ returns-in_err-base-clause-leads c =
     let s = c.args.self.now in
     let d = c.args.document in
     let why = rw (c.presence.ensures, c.world.ensures) at c.in_err-base.ensures.read in
-    rw (p.1, same) (read_not (BaseOf (presence_of (text_in s.base)) d.world) (WorldTakes (string_bytes c.args.name) s.file.now s.replica (d.world, d.edits)) c.args.file c.in_err-base.field-0.0 why)
+    rw (p.1, same) (read_not (BaseOf (presence_of (text_in s.base)) d.world) (WorldTakes (string_bytes c.args.name) s.file.now s.replica s.forcing (d.world, d.edits)) c.args.file c.in_err-base.field-0.0 why)
 
 pub returns-clause-leads : goal.returns-clause-leads
 returns-clause-leads c =
@@ -25,5 +25,5 @@ returns-clause-leads c =
     let is = rw (c.presence.ensures, c.world.ensures) at c.in_ok-base.ensures.read in
     let one = rw c.world.ensures at c.in_ok-base.ensures.world in (
       (c.requires, both_sound d.world c.in_ok-base.base c.in_ok-base.ensures.sound one),
-      based_on (presence_of (text_in s.base)) s.file.now s.replica s.world.now c.args.file (d.world, d.edits) (string_bytes c.args.name) (option_map (λ b. b.edits) c.in_ok-base.base) is,
+      based_on (presence_of (text_in s.base)) s.file.now s.replica s.forcing s.world.now c.args.file (d.world, d.edits) (string_bytes c.args.name) (option_map (λ b. b.edits) c.in_ok-base.base) is,
     )

@@ -13,7 +13,7 @@ returns-in_err-document-clause-leads c =
     let same : p.0 ≡ c.in_err-document.field-0.0 = p.2 in
     let s = c.args.self.now in
     let base = text_in s.base in
-    rw (p.1, same) (authored_not s.replica (OpensAs None) (BaseTakes (presence_of base) (base_word base s.world.now) s.file.now s.replica) c.args.file c.in_err-document.field-0.0 c.requires
+    rw (p.1, same) (authored_not s.replica (OpensAs None) (BaseTakes (presence_of base) (base_word base s.world.now) s.file.now s.replica s.forcing) c.args.file c.in_err-document.field-0.0 c.requires
     c.in_err-document.ensures.memory_only_when c.in_err-document.ensures.opened)
 
 pub returns-in_err-name-clause-leads : goal.returns-in_err-name-clause-leads
@@ -26,7 +26,7 @@ returns-then-eq-clause-leads c =
     let s = c.args.self.now in
     let d = c.in_ok-document.document in (
       (c.in_ok-document.ensures.sound, tt),
-      opened_alone (text_in s.base) s.file.now s.replica s.world.now c.args.file (d.world, d.edits) _ c.requires c.in_ok-document.ensures.there c.in_ok-document.ensures.opened
+      opened_alone (text_in s.base) s.file.now s.replica s.forcing s.world.now c.args.file (d.world, d.edits) _ c.requires c.in_ok-document.ensures.there c.in_ok-document.ensures.opened
           c.in_ok-name.ensures (rw c.as_str.ensures.value at (sym c.eq.ensures ∙ c.if-eq.true)),
     )
 
@@ -35,6 +35,6 @@ returns-else-eq-clause-leads c =
     let s = c.args.self.now in
     let d = c.in_ok-document.document in (
       c.in_ok-document.ensures.sound,
-      opened_beside (text_in s.base) s.file.now s.replica s.world.now c.args.file (d.world, d.edits) _ c.requires c.in_ok-document.ensures.there c.in_ok-document.ensures.opened
+      opened_beside (text_in s.base) s.file.now s.replica s.forcing s.world.now c.args.file (d.world, d.edits) _ c.requires c.in_ok-document.ensures.there c.in_ok-document.ensures.opened
           c.in_ok-name.ensures (rw c.as_str.ensures.value at (sym c.eq.ensures ∙ c.if-eq.false)),
     )

@@ -8,14 +8,14 @@ pub returns-in-Begun : goal.returns-in-Begun
 returns-in-Begun c = record {
   comes = λ first files stands.
       let s = c.args.self.now in
-      comes_now files _ _ _ _ _ stands.1 (none_for_no_author (text_in s.base) s.file.now s.replica s.world.now s.stage c.in-Begun.ensures.value c.requires.next);
+      comes_now files _ _ _ _ _ stands.1 (none_for_no_author (text_in s.base) s.file.now s.replica s.forcing s.world.now s.stage c.in-Begun.ensures.value c.requires.next);
 }
 
 pub returns-in-Done : goal.returns-in-Done
 returns-in-Done c = record {
   comes = λ first files stands.
       let s = c.args.self.now in
-      comes_now files _ _ _ _ _ stands.1 (ends_done (text_in s.base) s.file.now s.replica s.world.now s.stage c.in-Done.effect c.in-Done.ensures.value);
+      comes_now files _ _ _ _ _ stands.1 (ends_done (text_in s.base) s.file.now s.replica s.forcing s.world.now s.stage c.in-Done.effect c.in-Done.ensures.value);
 }
 
 pub returns-in-Opened : goal.returns-in-Opened
