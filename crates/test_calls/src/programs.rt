@@ -3,7 +3,7 @@
 use crate::growths::{refuse_each, turn_of};
 use std::alloc::Global;
 use test_rows::{Turn, refuse};
-use zed_script::{Program, TileKind, next_command, standing_at};
+use zed_oop_syntax::{Program, TileKind, next_command, standing_at};
 use zed_types::Tile;
 
 fn tile(element: u8, colour: u8) -> Tile {

@@ -1,7 +1,7 @@
 //! Programs of objects as they are read at a place. What is found is numbers: which of its kind it is, and its parts.
 use crate::sheet::Sheet;
 use std::alloc::AllocError;
-use zed_script::{
+use zed_oop_syntax::{
     Counter, Heading, Instruction, OopCommand, Program, Query, Test, TileKind, condition,
     direction, first_label, kind, label_at, label_place, line_after, line_end, next_command,
     standing_at, word_at,

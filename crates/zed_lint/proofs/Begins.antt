@@ -1,6 +1,6 @@
 -- Where the line of a place begins.
 use Rattle.std.proofs.Common.{◌≡◌, ℕ, List, zero, suc, ◌-◌, ◌<◌, true, false, arith, refl}
-use Rattle.zed_script.specs.Label.{byte_is}
+use Rattle.zed_oop_syntax.specs.Label.{byte_is}
 use Rattle.zed_lint.specs.Labels.{begins_commands, is_in_commands}
 
 -- one step back within a line

@@ -1,7 +1,7 @@
 -- A number below another that passes a test, and lines below others that are passed over.
 use borrow.Author.Tests.{ltb-true, ltb-false}
 use Rattle.std.proofs.Common.{◌≡◌, ℕ, zero, suc, ◌-◌, ◌<◌, ◌≤◌, Bool, true, false, ◌||◌, List, ap, refl, arith, nat_lt, subst}
-use Rattle.zed_script.specs.Text.{line_after}
+use Rattle.zed_oop_syntax.specs.Text.{line_after}
 use Rattle.zed_lint.specs.Labels.{any_below}
 use Rattle.zed_lint.specs.Said.{below, is_text, passes}
 

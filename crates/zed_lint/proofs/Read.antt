@@ -1,12 +1,12 @@
 -- What was read is what stands there.
 use Rattle.std.proofs.Common.{◌≡◌, ℕ, List, Option, ap₂}
-use Rattle.zed_script.specs.Command.{CommandAt}
-use Rattle.zed_script.specs.Line.{InstructionAt}
-use Rattle.zed_script.specs.declared.commands.OopCommand.{OopCommand}
-use Rattle.zed_script.specs.declared.lines.Instruction.{Instruction}
-use Rattle.zed_script.proofs.CommandThere.{command_there}
-use Rattle.zed_script.proofs.OneCommand.{command_one}
-use Rattle.zed_script.proofs.OneInstruction.{instruction_one, instruction_there}
+use Rattle.zed_oop_syntax.specs.Command.{CommandAt}
+use Rattle.zed_oop_syntax.specs.Line.{InstructionAt}
+use Rattle.zed_oop_syntax.specs.declared.commands.OopCommand.{OopCommand}
+use Rattle.zed_oop_syntax.specs.declared.lines.Instruction.{Instruction}
+use Rattle.zed_oop_syntax.proofs.CommandThere.{command_there}
+use Rattle.zed_oop_syntax.proofs.OneCommand.{command_one}
+use Rattle.zed_oop_syntax.proofs.OneInstruction.{instruction_one, instruction_there}
 use Rattle.zed_lint.specs.Reading.{read_at}
 use Rattle.zed_lint.specs.declared.reading.Read.TheVariants.{Instruction as InstructionRead, Command as CommandRead}
 use Rattle.zed_lint.specs.declared.reading.Reading.TheVariants.{Instructing, Commanding}

@@ -1,7 +1,7 @@
 -- What is found of the commands and steps of programs, and the flags that they set.
 use Rattle.std.specs.List.{flat_map}
 use Rattle.std.specs.Prelude.{ℕ, ◌*◌, ◌&&◌, if◌then◌else◌, List, [], ◌∷◌, length, Option, Some, None}
-use Rattle.zed_script.specs.declared.commands.OopCommand.TheVariants.{Set}
+use Rattle.zed_oop_syntax.specs.declared.commands.OopCommand.TheVariants.{Set}
 use Rattle.zed_world.specs.declared.board.BoardData.{BoardData}
 use Rattle.zed_world.specs.declared.stat.StatData.{StatData}
 use Rattle.zed_log.specs.Program.{own_bytes}

@@ -2,17 +2,17 @@
 use Rattle.std.specs.List.{list_any}
 use Rattle.std.specs.Prelude.{ℕ, Bool, ◌&&◌, ◌||◌, if◌then◌else◌, List, take, Option, Some, None}
 use Rattle.std.specs.Str.{bytes_eq}
-use Rattle.zed_script.specs.Label.{byte_is}
-use Rattle.zed_script.specs.Text.{word_at}
-use Rattle.zed_script.specs.declared.commands.Counter.{Counter}
-use Rattle.zed_script.specs.declared.commands.OopCommand.{OopCommand}
-use Rattle.zed_script.specs.declared.commands.OopCommand.TheVariants.{Go, Try, Walk, Shoot, If, Give, Take, Become, Put, Change, Bind, Other}
-use Rattle.zed_script.specs.declared.conditions.Test.{Test}
-use Rattle.zed_script.specs.declared.conditions.Test.TheVariants.{Blocked, Any, Flag}
-use Rattle.zed_script.specs.declared.heading.Heading.{Heading}
-use Rattle.zed_script.specs.declared.kinds.TileKind.{TileKind}
-use Rattle.zed_script.specs.declared.lines.Instruction.{Instruction}
-use Rattle.zed_script.specs.declared.lines.Instruction.TheVariants.{Step, Attempt}
+use Rattle.zed_oop_syntax.specs.Label.{byte_is}
+use Rattle.zed_oop_syntax.specs.Text.{word_at}
+use Rattle.zed_oop_syntax.specs.declared.commands.Counter.{Counter}
+use Rattle.zed_oop_syntax.specs.declared.commands.OopCommand.{OopCommand}
+use Rattle.zed_oop_syntax.specs.declared.commands.OopCommand.TheVariants.{Go, Try, Walk, Shoot, If, Give, Take, Become, Put, Change, Bind, Other}
+use Rattle.zed_oop_syntax.specs.declared.conditions.Test.{Test}
+use Rattle.zed_oop_syntax.specs.declared.conditions.Test.TheVariants.{Blocked, Any, Flag}
+use Rattle.zed_oop_syntax.specs.declared.heading.Heading.{Heading}
+use Rattle.zed_oop_syntax.specs.declared.kinds.TileKind.{TileKind}
+use Rattle.zed_oop_syntax.specs.declared.lines.Instruction.{Instruction}
+use Rattle.zed_oop_syntax.specs.declared.lines.Instruction.TheVariants.{Step, Attempt}
 use Rattle.zed_world.specs.declared.stat.StatData.{StatData}
 use Rattle.zed_log.specs.Program.{own_bytes}
 use Rattle.zed_lint.specs.Labels.{is_known, label_of}

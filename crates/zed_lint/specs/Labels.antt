@@ -2,7 +2,7 @@
 use Rattle.std.specs.Char.{is_ascii_alphanumeric}
 use Rattle.std.specs.List.{list_any}
 use Rattle.std.specs.Prelude.{ℕ, zero, suc, ◌+◌, ◌-◌, Bool, false, not, ◌&&◌, ◌||◌, ◌==◌, nat_lt, if◌then◌else◌, List, length, take, drop, [], position, Option, Some, None, codes}
-use Rattle.zed_script.specs.Label.{byte_is, label_at, one_word}
+use Rattle.zed_oop_syntax.specs.Label.{byte_is, label_at, one_word}
 use Rattle.zed_world.specs.declared.stat.StatData.{StatData}
 use Rattle.zed_log.specs.Program.{own_bytes}
 use Rattle.zed_lint.specs.Found.{each_from, noted}

@@ -1,13 +1,13 @@
 -- What stands one after the other in a line of commands, as it is read in play.
 use Rattle.std.specs.Prelude.{ℕ, zero, suc, List, [], ◌++◌, Option, Some, None}
-use Rattle.zed_script.specs.declared.commands.OopCommand.{OopCommand}
-use Rattle.zed_script.specs.declared.commands.OopCommand.TheVariants.{Try, If, Take}
-use Rattle.zed_script.specs.declared.conditions.Test.{Test}
-use Rattle.zed_script.specs.declared.conditions.Test.TheVariants.{Blocked, Any}
-use Rattle.zed_script.specs.declared.lines.Instruction.{Instruction}
-use Rattle.zed_script.specs.declared.lines.Instruction.TheVariants.{Step, Attempt, Command as CommandBegins}
-use Rattle.zed_script.proofs.CommandThere.{command_there}
-use Rattle.zed_script.proofs.OneInstruction.{instruction_there}
+use Rattle.zed_oop_syntax.specs.declared.commands.OopCommand.{OopCommand}
+use Rattle.zed_oop_syntax.specs.declared.commands.OopCommand.TheVariants.{Try, If, Take}
+use Rattle.zed_oop_syntax.specs.declared.conditions.Test.{Test}
+use Rattle.zed_oop_syntax.specs.declared.conditions.Test.TheVariants.{Blocked, Any}
+use Rattle.zed_oop_syntax.specs.declared.lines.Instruction.{Instruction}
+use Rattle.zed_oop_syntax.specs.declared.lines.Instruction.TheVariants.{Step, Attempt, Command as CommandBegins}
+use Rattle.zed_oop_syntax.proofs.CommandThere.{command_there}
+use Rattle.zed_oop_syntax.proofs.OneInstruction.{instruction_there}
 use Rattle.zed_lint.specs.declared.reading.Read.{Read}
 use Rattle.zed_lint.specs.declared.reading.Read.TheVariants.{Instruction as InstructionRead, Command as CommandRead}
 use Rattle.zed_lint.specs.declared.reading.Reading.{Reading}

@@ -1,11 +1,11 @@
 -- What is found of what programs say, and of names below their first lines.
 use Rattle.std.specs.Prelude.{ℕ, zero, suc, Bool, true, false, not, ◌&&◌, ◌||◌, nat_lt, if◌then◌else◌, List, [], length, drop, Option, Some, None}
-use Rattle.zed_script.specs.Label.{byte_is}
-use Rattle.zed_script.specs.Line.{begun_at, line_text}
-use Rattle.zed_script.specs.Scroll.{is_centred, is_choice, is_file, link, link_text}
-use Rattle.zed_script.specs.Text.{line_after}
-use Rattle.zed_script.specs.declared.lines.LineKind.{LineKind}
-use Rattle.zed_script.specs.declared.lines.LineKind.TheVariants.{Skipped, Blank, Message}
+use Rattle.zed_oop_syntax.specs.Label.{byte_is}
+use Rattle.zed_oop_syntax.specs.Line.{begun_at, line_text}
+use Rattle.zed_oop_syntax.specs.Scroll.{is_centred, is_choice, is_file, link, link_text}
+use Rattle.zed_oop_syntax.specs.Text.{line_after}
+use Rattle.zed_oop_syntax.specs.declared.lines.LineKind.{LineKind}
+use Rattle.zed_oop_syntax.specs.declared.lines.LineKind.TheVariants.{Skipped, Blank, Message}
 use Rattle.zed_world.specs.declared.stat.StatData.{StatData}
 use Rattle.zed_lint.specs.Labels.{is_known, label_of, starts_line}
 use Rattle.zed_lint.specs.declared.finding.What.{What}

@@ -11,7 +11,7 @@ use crate::noting::note;
 use crate::reading::{Read, Reading, next_reading, read_at};
 use crate::stats::own_bytes;
 use std::alloc::{AllocError, Global};
-use zed_script::OopCommand;
+use zed_oop_syntax::OopCommand;
 use zed_types::Bytes;
 use zed_world::{BoardData, StatData};
 

@@ -6,7 +6,9 @@ use crate::finding::What;
 use crate::labels::{is_known, label_of};
 use crate::reading::{Read, Reading, mark_of};
 use crate::stats::own_bytes;
-use zed_script::{Counter, Heading, Instruction, OopCommand, Test, TileKind, byte_is, is_word_at};
+use zed_oop_syntax::{
+    Counter, Heading, Instruction, OopCommand, Test, TileKind, byte_is, is_word_at,
+};
 use zed_types::Bytes;
 use zed_world::StatData;
 

@@ -1,13 +1,13 @@
 //! Labels that commands of programs name, and no program has.
 ghost use Rattle.std.specs.Prelude.{◌≡◌, ◌<◌, ◌++◌, OnErr, OnOk, length, position};
 ghost use Rattle.zed_lint.specs.Labels.{begins_commands, behind_word, first_word, has_label, is_colon, is_in_commands, is_known, is_label, is_lost, is_naming, is_no_space, is_of_word, is_past_word, starts_line, label_findings, label_of, labels_findings, named_label, names_label, some_has, unspaced};
-ghost use Rattle.zed_script.specs.Label.{one_word as one_word_of};
+ghost use Rattle.zed_oop_syntax.specs.Label.{one_word as one_word_of};
 
 use crate::finding::{Finding, Spot, What};
 use crate::noting::note;
 use crate::stats::own_bytes;
 use std::alloc::AllocError;
-use zed_script::{byte_is, label_at};
+use zed_oop_syntax::{byte_is, label_at};
 use zed_types::Bytes;
 use zed_world::StatData;
 
@@ -71,7 +71,7 @@ fn behind_word(bytes: &[u8]) -> &[u8]
 }
 
 // Whether two words are one but for the case of their letters.
-#[tactic(auto, unfolding(zed_script::specs::Label::one_word))]
+#[tactic(auto, unfolding(zed_oop_syntax::specs::Label::one_word))]
 fn is_word(word: &[u8], name: &str) -> bool
     ensures { result ≡ one_word_of word.now name.now }
 {

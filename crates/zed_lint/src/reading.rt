@@ -3,7 +3,7 @@ ghost use Rattle.std.specs.Prelude.{◌≡◌, IfOk};
 ghost use Rattle.zed_lint.specs.Reading.{after_command, after_instruction, after_test, mark_of, next_reading, read_at};
 
 use std::alloc::{AllocError, Global};
-use zed_script::{Instruction, OopCommand, Test, next_command, standing_at};
+use zed_oop_syntax::{Instruction, OopCommand, Test, next_command, standing_at};
 
 /// What is read next, and where.
 #[derive(Clone, Copy, PartialEq, Eq)]

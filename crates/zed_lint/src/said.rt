@@ -5,7 +5,7 @@ ghost use Rattle.zed_lint.specs.Said.{above, below, is_said_with_others, is_text
 use crate::finding::What;
 use crate::labels::{is_known, label_of, starts_line};
 use std::alloc::{AllocError, Global};
-use zed_script::{LineKind, ScrollLine, begun_at, byte_is, line_after, line_text, scroll_line};
+use zed_oop_syntax::{LineKind, ScrollLine, begun_at, byte_is, line_after, line_text, scroll_line};
 use zed_types::Bytes;
 use zed_world::StatData;
 

@@ -3,10 +3,10 @@ use borrow.Author.Tests.{ltb-false}
 use Rattle.std.proofs.Common.{◌≡◌, ◌∙◌, ◌≤◌, ◌⊎◌, inl, inr, ℕ, zero, suc, arith, Bool, true, false, cond, nat_lt, length, slice_get, List, [], ◌∷◌, Option, Some, None, refl, sym, ap, subst}
 use Rattle.zed_scene.specs.declared.stat.Stat.{Stat}
 use Rattle.zed_scene.specs.Scene.{Scene, program_of, running_stat, stat_of}
-use Rattle.zed_script.specs.declared.lines.Instruction.{Instruction}
-use Rattle.zed_script.specs.declared.lines.Instruction.TheVariants.{End, Skipped, Blank, Step, Attempt, Command as CommandLine, Message}
-use Rattle.zed_script.specs.declared.lines.LineKind.TheVariants.{End as EndKind, Step as StepKind, Attempt as AttemptKind, Message as MessageKind}
-use Rattle.zed_script.specs.Line.{InstructionAt, InstructionKeeps}
+use Rattle.zed_oop_syntax.specs.declared.lines.Instruction.{Instruction}
+use Rattle.zed_oop_syntax.specs.declared.lines.Instruction.TheVariants.{End, Skipped, Blank, Step, Attempt, Command as CommandLine, Message}
+use Rattle.zed_oop_syntax.specs.declared.lines.LineKind.TheVariants.{End as EndKind, Step as StepKind, Attempt as AttemptKind, Message as MessageKind}
+use Rattle.zed_oop_syntax.specs.Line.{InstructionAt, InstructionKeeps}
 use Rattle.zed_oop.specs.declared.turning.Reading.{Reading}
 use Rattle.zed_oop.specs.declared.turning.Reading.TheVariants.{Instructing}
 use Rattle.zed_oop.specs.Turn.{ChainTakes, Does, InstructionWants, ReadingTakes, State, TurnTakes, ends, goes, counts, instructs, over, position_of, start_of, takes_behind, takes_further, takes_here, to_place}

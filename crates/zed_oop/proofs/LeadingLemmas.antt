@@ -1,6 +1,6 @@
 -- Turnings, one after another.
 use Rattle.std.proofs.Common.{◌≡◌, ℕ, zero, suc, ◌<◌, List, [], ◌∷◌, Some, None, drop, get_or, length, refl, arith}
-use Rattle.zed_script.specs.declared.heading.Turning.{Turning}
+use Rattle.zed_oop_syntax.specs.declared.heading.Turning.{Turning}
 use Rattle.zed_scene.specs.declared.step.Step.{Step}
 use Rattle.zed_oop.specs.Leading.{turned, turned_all}
 

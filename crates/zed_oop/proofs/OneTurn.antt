@@ -2,12 +2,12 @@
 use Rattle.std.proofs.Common.{◌≡◌, ◌∙◌, ◌⊎◌, inl, inr, ℕ, zero, suc, List, Option, Some, None, refl, sym, ap, subst}
 use Rattle.zed_scene.specs.declared.stat.Stat.{Stat}
 use Rattle.zed_scene.specs.Scene.{Scene, program_of, running_stat}
-use Rattle.zed_script.specs.declared.commands.OopCommand.{OopCommand}
-use Rattle.zed_script.specs.declared.lines.Instruction.{Instruction}
-use Rattle.zed_script.specs.Command.{CommandAt}
-use Rattle.zed_script.specs.Line.{InstructionAt}
-use Rattle.zed_script.proofs.OneCommand.{command_one}
-use Rattle.zed_script.proofs.OneInstruction.{instruction_one}
+use Rattle.zed_oop_syntax.specs.declared.commands.OopCommand.{OopCommand}
+use Rattle.zed_oop_syntax.specs.declared.lines.Instruction.{Instruction}
+use Rattle.zed_oop_syntax.specs.Command.{CommandAt}
+use Rattle.zed_oop_syntax.specs.Line.{InstructionAt}
+use Rattle.zed_oop_syntax.proofs.OneCommand.{command_one}
+use Rattle.zed_oop_syntax.proofs.OneInstruction.{instruction_one}
 use Rattle.zed_oop.specs.declared.turning.Reading.{Reading}
 use Rattle.zed_oop.specs.declared.turning.Reading.TheVariants.{Instructing, Commanding}
 use Rattle.zed_oop.specs.Turn.{Chain, Does, Outcome, Stands, State, Turn, commanded, commands, counted, counts, ended, ends, finished, goes, instructed, instructs, lacked, lacks, over, position_of, start_of, used_up, went_on}

@@ -5,7 +5,7 @@ use Rattle.std.proofs.lemmas.Bool.Decides.{eqb_tells}
 use Rattle.std.proofs.lemmas.Option.{slice_get_past}
 use Rattle.zed_scene.specs.declared.stat.Stat.{Stat}
 use Rattle.zed_scene.specs.Scene.{Scene, program_of}
-use Rattle.zed_script.specs.Label.{label_place}
+use Rattle.zed_oop_syntax.specs.Label.{label_place}
 use Rattle.zed_oop.specs.declared.programs.Relabelling.{Relabelling}
 use Rattle.zed_oop.specs.Sending.{Sent, arrived, changed_of, changed_program, for_each, is_colon, is_number, is_own, is_reached, is_target, is_target_of, label_of, relabel_one, relabelled, relabelled_in, send_one, sent, sent_to, so_far, target_before, target_of}
 

@@ -3,9 +3,9 @@ use Rattle.std.proofs.Common.{Result, Ok, Err, IfOk, Bool, true, false, ◌≡�
 use Rattle.zed_oop.specs.declared.acting.Next.{Next}
 use Rattle.zed_oop.specs.declared.acting.Next.TheVariants.{Skip, Stay, Command as CommandNext, SkipAndEnd, End as EndNext, Error}
 use Rattle.zed_scene.specs.declared.stat.Stat.{Stat}
-use Rattle.zed_script.specs.declared.commands.OopCommand.{OopCommand}
-use Rattle.zed_script.specs.declared.lines.Instruction.{Instruction}
-use Rattle.zed_script.specs.declared.lines.Instruction.TheVariants.{End, Skipped, Blank, Step, Attempt, Command as CommandLine, Message}
+use Rattle.zed_oop_syntax.specs.declared.commands.OopCommand.{OopCommand}
+use Rattle.zed_oop_syntax.specs.declared.lines.Instruction.{Instruction}
+use Rattle.zed_oop_syntax.specs.declared.lines.Instruction.TheVariants.{End, Skipped, Blank, Step, Attempt, Command as CommandLine, Message}
 use Rattle.zed_scene.specs.Scene.{Scene, program_of, running_stat}
 use Rattle.zed_scene.specs.declared.step.Step.{Step as Way}
 use Rattle.zed_oop.specs.declared.turning.Reading.{Reading}
@@ -16,7 +16,7 @@ use Rattle.zed_scene.specs.Trying.{try_move}
 use Rattle.zed_oop.specs.Effect.{effect}
 use Rattle.zed_oop.specs.Leading.{led}
 use Rattle.zed_scene.specs.Words.{Drawn}
-use Rattle.zed_script.specs.Line.{IsAhead}
+use Rattle.zed_oop_syntax.specs.Line.{IsAhead}
 use Rattle.zed_scene.specs.declared.error.SceneError.{SceneError}
 use Rattle.zed_oop.specs.declared.turning.After.{After}
 use Rattle.zed_oop.specs.declared.turning.After.TheVariants.{Ends, Goes, Counts}

@@ -5,10 +5,10 @@ use Rattle.zed_scene.specs.declared.error.SceneError.TheVariants.{Memory, NoWord
 use Rattle.zed_scene.specs.declared.stat.Stat.{Stat}
 use Rattle.zed_scene.specs.Scene.{Scene, program_of, running_stat}
 use Rattle.zed_scene.specs.Words.{Drawn}
-use Rattle.zed_script.specs.declared.commands.OopCommand.{OopCommand}
-use Rattle.zed_script.specs.declared.lines.Instruction.{Instruction}
-use Rattle.zed_script.specs.Command.{CommandAt, CommandTakes}
-use Rattle.zed_script.specs.Line.{InstructionAt, InstructionTakes}
+use Rattle.zed_oop_syntax.specs.declared.commands.OopCommand.{OopCommand}
+use Rattle.zed_oop_syntax.specs.declared.lines.Instruction.{Instruction}
+use Rattle.zed_oop_syntax.specs.Command.{CommandAt, CommandTakes}
+use Rattle.zed_oop_syntax.specs.Line.{InstructionAt, InstructionTakes}
 use Rattle.zed_oop.specs.declared.turning.After.{After}
 use Rattle.zed_oop.specs.declared.turning.After.TheVariants.{Goes, Counts}
 use Rattle.zed_oop.specs.declared.turning.Reading.{Reading}

@@ -8,18 +8,18 @@ use Rattle.zed_scene.specs.Scene.{Scene}
 use Rattle.zed_scene.specs.Seeking.{east, north}
 use Rattle.zed_scene.specs.Trying.{try_move}
 use Rattle.zed_scene.specs.Words.{Drawn, draw, ◌>>=◌}
-use Rattle.zed_script.specs.declared.commands.OopCommand.{OopCommand}
-use Rattle.zed_script.specs.declared.commands.OopCommand.TheVariants.{Go, Try, Walk, Shoot, If, Put}
-use Rattle.zed_script.specs.declared.conditions.Query.{Query}
-use Rattle.zed_script.specs.declared.conditions.Test.{Test}
-use Rattle.zed_script.specs.declared.conditions.Test.TheVariants.{Blocked}
-use Rattle.zed_script.specs.declared.heading.Course.{Course}
-use Rattle.zed_script.specs.declared.heading.Course.TheVariants.{Seek, Random, RandomNorthOrSouth, RandomNorthOrEast}
-use Rattle.zed_script.specs.declared.heading.Heading.{Heading}
-use Rattle.zed_script.specs.declared.heading.Turning.{Turning}
-use Rattle.zed_script.specs.declared.heading.Turning.TheVariants.{Sideways}
-use Rattle.zed_script.specs.declared.lines.Instruction.{Instruction}
-use Rattle.zed_script.specs.declared.lines.Instruction.TheVariants.{Step, Attempt}
+use Rattle.zed_oop_syntax.specs.declared.commands.OopCommand.{OopCommand}
+use Rattle.zed_oop_syntax.specs.declared.commands.OopCommand.TheVariants.{Go, Try, Walk, Shoot, If, Put}
+use Rattle.zed_oop_syntax.specs.declared.conditions.Query.{Query}
+use Rattle.zed_oop_syntax.specs.declared.conditions.Test.{Test}
+use Rattle.zed_oop_syntax.specs.declared.conditions.Test.TheVariants.{Blocked}
+use Rattle.zed_oop_syntax.specs.declared.heading.Course.{Course}
+use Rattle.zed_oop_syntax.specs.declared.heading.Course.TheVariants.{Seek, Random, RandomNorthOrSouth, RandomNorthOrEast}
+use Rattle.zed_oop_syntax.specs.declared.heading.Heading.{Heading}
+use Rattle.zed_oop_syntax.specs.declared.heading.Turning.{Turning}
+use Rattle.zed_oop_syntax.specs.declared.heading.Turning.TheVariants.{Sideways}
+use Rattle.zed_oop_syntax.specs.declared.lines.Instruction.{Instruction}
+use Rattle.zed_oop_syntax.specs.declared.lines.Instruction.TheVariants.{Step, Attempt}
 use Rattle.zed_oop.specs.declared.acting.Next.{Next}
 use Rattle.zed_oop.specs.declared.acting.Next.TheVariants.{Skip}
 use Rattle.zed_oop.specs.declared.turning.After.{After}

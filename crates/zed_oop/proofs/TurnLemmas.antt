@@ -1,15 +1,15 @@
 -- What a call shows of a turn that did an instruction.
 use Rattle.std.proofs.Common.{Result, Ok, Err, inl, inr, subst, ◌≡◌, ℕ, List, Option, Some, sym}
 use Rattle.zed_scene.specs.declared.stat.Stat.{Stat}
-use Rattle.zed_script.specs.Command.{CommandAt}
-use Rattle.zed_script.specs.declared.commands.OopCommand.{OopCommand}
+use Rattle.zed_oop_syntax.specs.Command.{CommandAt}
+use Rattle.zed_oop_syntax.specs.declared.commands.OopCommand.{OopCommand}
 use Rattle.zed_scene.specs.declared.error.SceneError.{SceneError}
-use Rattle.zed_script.specs.declared.lines.Instruction.{Instruction}
+use Rattle.zed_oop_syntax.specs.declared.lines.Instruction.{Instruction}
 use Rattle.zed_oop.specs.declared.turning.After.{After}
 use Rattle.zed_oop.specs.declared.turning.Reading.{Reading}
 use Rattle.zed_oop.specs.declared.turning.Reading.TheVariants.{Instructing, Commanding}
 use Rattle.zed_scene.specs.Scene.{program_of, running_stat}
-use Rattle.zed_script.specs.Line.{InstructionAt}
+use Rattle.zed_oop_syntax.specs.Line.{InstructionAt}
 use Rattle.zed_oop.specs.Turn.{Comes, Does, Outcome, State, StepsTo, commanded, commands, instructed, instructs}
 
 -- where it was shown what an instruction does, a call that came to that made the step

@@ -2,11 +2,11 @@
 use Rattle.std.proofs.Common.{◌≡◌, ◌∙◌, ℕ, zero, suc, ◌<◌, List, Option, Some, None, refl, ap, arith}
 use Rattle.zed_scene.specs.declared.stat.Stat.{Stat}
 use Rattle.zed_scene.specs.Scene.{Scene, program_of, running_stat}
-use Rattle.zed_script.specs.declared.commands.OopCommand.{OopCommand}
-use Rattle.zed_script.specs.Command.{CommandAt}
-use Rattle.zed_script.proofs.Ahead.{instruction_ahead, no_command_after}
-use Rattle.zed_script.proofs.CommandThere.{command_there}
-use Rattle.zed_script.proofs.OneInstruction.{instruction_there}
+use Rattle.zed_oop_syntax.specs.declared.commands.OopCommand.{OopCommand}
+use Rattle.zed_oop_syntax.specs.Command.{CommandAt}
+use Rattle.zed_oop_syntax.proofs.Ahead.{instruction_ahead, no_command_after}
+use Rattle.zed_oop_syntax.proofs.CommandThere.{command_there}
+use Rattle.zed_oop_syntax.proofs.OneInstruction.{instruction_there}
 use Rattle.zed_oop.specs.declared.turning.Reading.{Reading}
 use Rattle.zed_oop.specs.declared.turning.Reading.TheVariants.{Instructing, Commanding}
 use Rattle.zed_oop.specs.Acting.{with_position}

@@ -3,7 +3,7 @@ use Rattle.std.specs.Prelude.{ℕ, List, Option, Some, None}
 use Rattle.zed_scene.specs.declared.stat.Stat.{Stat}
 use Rattle.zed_scene.specs.declared.step.Step.{Step}
 use Rattle.zed_scene.specs.Scene.{Scene, program_of, put_running_stat, running_stat}
-use Rattle.zed_script.specs.Text.{line_after}
+use Rattle.zed_oop_syntax.specs.Text.{line_after}
 
 -- the running stat changes, if it is still there
 abbrev pub changed : (Stat → Stat) → Option Stat → Scene → Scene

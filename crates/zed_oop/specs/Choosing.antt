@@ -2,8 +2,8 @@
 use Rattle.std.specs.Prelude.{◌≡◌, ℕ, ◌<◌, Bool, true, false, if◌then◌else◌, List, length, slice_get, Option, Some, None, Result, Ok, Err}
 use Rattle.zed_scene.specs.declared.scroll.Scroll.{Scroll}
 use Rattle.zed_scene.specs.Scene.{Scene, there}
-use Rattle.zed_script.specs.Scroll.{is_choice, is_file, link}
-use Rattle.zed_script.specs.Text.{upper}
+use Rattle.zed_oop_syntax.specs.Scroll.{is_choice, is_file, link}
+use Rattle.zed_oop_syntax.specs.Text.{upper}
 use Rattle.zed_oop.specs.declared.choosing.Chosen.{Chosen}
 use Rattle.zed_oop.specs.declared.choosing.Chosen.TheVariants.{Sent, NoLabel, Gone, NoFile, NoChoice}
 use Rattle.zed_oop.specs.Sending.{is_heard, sent}

@@ -7,12 +7,12 @@ use Rattle.zed_oop.specs.declared.performing.Motion.TheVariants.{Go as GoAlong, 
 use Rattle.zed_oop.specs.declared.acting.Next.{Next}
 use Rattle.zed_oop.specs.declared.acting.Next.TheVariants.{Skip, Stay, Command as CommandNext, SkipAndEnd, End as EndNext, Error}
 use Rattle.zed_scene.specs.declared.stat.Stat.{Stat}
-use Rattle.zed_script.specs.declared.commands.OopCommand.{OopCommand}
-use Rattle.zed_script.specs.declared.commands.OopCommand.TheVariants.{Go, Try, Walk, Shoot, Set, Clear, If, Give, Take, End, EndGame, Idle, Restart, Send, Zap, Restore, Lock, Unlock, Become, Die, Put, Change, Cycle, Char, Bind, Nothing, Other}
+use Rattle.zed_oop_syntax.specs.declared.commands.OopCommand.{OopCommand}
+use Rattle.zed_oop_syntax.specs.declared.commands.OopCommand.TheVariants.{Go, Try, Walk, Shoot, Set, Clear, If, Give, Take, End, EndGame, Idle, Restart, Send, Zap, Restore, Lock, Unlock, Become, Die, Put, Change, Cycle, Char, Bind, Nothing, Other}
 use Rattle.zed_scene.specs.declared.error.SceneError.{SceneError}
 use Rattle.zed_scene.specs.declared.error.SceneError.TheVariants.{Memory, NoWords}
-use Rattle.zed_script.specs.declared.heading.Heading.{Heading}
-use Rattle.zed_script.specs.declared.kinds.TileKind.{TileKind}
+use Rattle.zed_oop_syntax.specs.declared.heading.Heading.{Heading}
+use Rattle.zed_oop_syntax.specs.declared.kinds.TileKind.{TileKind}
 use Rattle.zed_scene.specs.Scene.{Scene}
 use Rattle.zed_scene.specs.declared.shooting.Shooter.TheVariants.{Creature}
 use Rattle.zed_scene.specs.declared.step.Step.{Step}

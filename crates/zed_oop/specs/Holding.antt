@@ -1,7 +1,7 @@
 -- Counters.
 use Rattle.std.specs.Prelude.{ℕ, ℤ, pos, ◌+ℤ◌, ◌-ℤ◌, int_lt, Bool, true, false, if◌then◌else◌, Option, Some, None}
-use Rattle.zed_script.specs.declared.commands.Counter.{Counter}
-use Rattle.zed_script.specs.declared.commands.Counter.TheVariants.{Health, Ammo, Gems, Torches, Score, Time}
+use Rattle.zed_oop_syntax.specs.declared.commands.Counter.{Counter}
+use Rattle.zed_oop_syntax.specs.declared.commands.Counter.TheVariants.{Health, Ammo, Gems, Torches, Score, Time}
 use Rattle.zed_scene.specs.declared.counters.Counters.{Counters}
 use Rattle.zed_scene.specs.Scene.{Scene}
 

@@ -1,10 +1,10 @@
 -- Where directions lead.
 use Rattle.std.specs.Prelude.{ℕ, ◌==◌, if◌then◌else◌, List, [], ◌∷◌, Option, Some, None}
 use Rattle.zed_scene.specs.declared.stat.Stat.{Stat}
-use Rattle.zed_script.specs.declared.heading.Course.{Course}
-use Rattle.zed_script.specs.declared.heading.Course.TheVariants.{North, South, East, West, Idle, Seek, Flow, Random, RandomNorthOrSouth, RandomNorthOrEast}
-use Rattle.zed_script.specs.declared.heading.Turning.{Turning}
-use Rattle.zed_script.specs.declared.heading.Turning.TheVariants.{Clockwise, CounterClockwise, Opposite, Sideways}
+use Rattle.zed_oop_syntax.specs.declared.heading.Course.{Course}
+use Rattle.zed_oop_syntax.specs.declared.heading.Course.TheVariants.{North, South, East, West, Idle, Seek, Flow, Random, RandomNorthOrSouth, RandomNorthOrEast}
+use Rattle.zed_oop_syntax.specs.declared.heading.Turning.{Turning}
+use Rattle.zed_oop_syntax.specs.declared.heading.Turning.TheVariants.{Clockwise, CounterClockwise, Opposite, Sideways}
 use Rattle.zed_scene.specs.Scene.{Scene}
 use Rattle.zed_scene.specs.declared.step.Step.{Step}
 use Rattle.zed_scene.specs.Places.{clockwise, counter_clockwise, opposite}

@@ -3,13 +3,13 @@ use Rattle.std.specs.Prelude.{ℕ, zero, suc, Bool, true, false, ◌&&◌, nat_l
 use Rattle.zed_types.specs.declared.tile.Place.{Place}
 use Rattle.zed_types.specs.Table.{place_at}
 use Rattle.zed_scene.specs.declared.stat.Stat.{Stat}
-use Rattle.zed_script.specs.declared.kinds.TileKind.{TileKind}
+use Rattle.zed_oop_syntax.specs.declared.kinds.TileKind.{TileKind}
 use Rattle.zed_scene.specs.Scene.{Scene, element_at, program_of, put, running_stat, same_place, tile_at}
 use Rattle.zed_scene.specs.declared.step.Step.{Step}
 use Rattle.zed_oop.specs.Acting.{changed}
 use Rattle.zed_scene.specs.Trying.{is_nowhere, way_made}
-use Rattle.zed_script.specs.Kind.{matches, tile_of}
-use Rattle.zed_script.specs.Label.{least}
+use Rattle.zed_oop_syntax.specs.Kind.{matches, tile_of}
+use Rattle.zed_oop_syntax.specs.Label.{least}
 use Rattle.zed_scene.specs.Moving.{is_walkable}
 use Rattle.zed_scene.specs.Places.{ahead}
 use Rattle.zed_scene.specs.Removing.{remove_stat}

@@ -6,8 +6,8 @@ use Rattle.zed_scene.specs.declared.stat.Stat.{Stat}
 use Rattle.zed_scene.specs.Scene.{Scene, program_of, put_stat}
 use Rattle.zed_oop.specs.declared.programs.Relabelling.{Relabelling}
 use Rattle.zed_oop.specs.declared.programs.Relabelling.TheVariants.{Hide, Show}
-use Rattle.zed_script.specs.Label.{byte_is, first_label, is_restart, label_at, label_place}
-use Rattle.zed_script.specs.Text.{word_at}
+use Rattle.zed_oop_syntax.specs.Label.{byte_is, first_label, is_restart, label_at, label_place}
+use Rattle.zed_oop_syntax.specs.Text.{word_at}
 
 -- f of 0, of 1, and so on below n, each after the one before
 abbrev pub for_each : {X : Type 0} → (ℕ → X → X) → ℕ → X → X

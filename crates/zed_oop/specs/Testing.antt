@@ -4,15 +4,15 @@ use Rattle.std.specs.List.{list_any}
 use Rattle.zed_types.specs.declared.tile.Place.{Place}
 use Rattle.zed_types.specs.declared.tile.Tile.{Tile}
 use Rattle.zed_scene.specs.declared.stat.Stat.{Stat}
-use Rattle.zed_script.specs.declared.conditions.Query.{Query}
-use Rattle.zed_script.specs.declared.conditions.Test.{Test}
-use Rattle.zed_script.specs.declared.conditions.Test.TheVariants.{Aligned, Contact, Blocked, Any, Energized, Flag}
-use Rattle.zed_script.specs.declared.heading.Heading.{Heading}
-use Rattle.zed_script.specs.declared.kinds.TileKind.{TileKind}
+use Rattle.zed_oop_syntax.specs.declared.conditions.Query.{Query}
+use Rattle.zed_oop_syntax.specs.declared.conditions.Test.{Test}
+use Rattle.zed_oop_syntax.specs.declared.conditions.Test.TheVariants.{Aligned, Contact, Blocked, Any, Energized, Flag}
+use Rattle.zed_oop_syntax.specs.declared.heading.Heading.{Heading}
+use Rattle.zed_oop_syntax.specs.declared.kinds.TileKind.{TileKind}
 use Rattle.zed_scene.specs.Scene.{Scene, element_ahead}
 use Rattle.zed_scene.specs.declared.step.Step.{Step}
-use Rattle.zed_script.specs.Condition.{flipped}
-use Rattle.zed_script.specs.Kind.{matches}
+use Rattle.zed_oop_syntax.specs.Condition.{flipped}
+use Rattle.zed_oop_syntax.specs.Kind.{matches}
 use Rattle.zed_oop.specs.Leading.{led}
 use Rattle.zed_scene.specs.Moving.{is_walkable}
 use Rattle.zed_scene.specs.Places.{ahead, apart}

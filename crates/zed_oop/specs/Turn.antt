@@ -3,11 +3,11 @@ use Rattle.std.specs.Prelude.{Result, Ok, Err, MatchResult, ◌+◌, ◌*◌, �
 use Rattle.zed_oop.specs.declared.acting.Next.{Next}
 use Rattle.zed_oop.specs.declared.acting.Next.TheVariants.{Skip, Stay, Command as CommandNext, SkipAndEnd, End as EndNext, Error}
 use Rattle.zed_scene.specs.declared.stat.Stat.{Stat}
-use Rattle.zed_script.specs.declared.commands.OopCommand.{OopCommand}
-use Rattle.zed_script.specs.declared.heading.Heading.{Heading}
+use Rattle.zed_oop_syntax.specs.declared.commands.OopCommand.{OopCommand}
+use Rattle.zed_oop_syntax.specs.declared.heading.Heading.{Heading}
 use Rattle.zed_oop.specs.declared.turning.Effects.{Effects}
-use Rattle.zed_script.specs.declared.lines.Instruction.{Instruction}
-use Rattle.zed_script.specs.declared.lines.Instruction.TheVariants.{End, Skipped, Blank, Step, Attempt, Command as CommandLine, Message}
+use Rattle.zed_oop_syntax.specs.declared.lines.Instruction.{Instruction}
+use Rattle.zed_oop_syntax.specs.declared.lines.Instruction.TheVariants.{End, Skipped, Blank, Step, Attempt, Command as CommandLine, Message}
 use Rattle.zed_types.specs.declared.tile.Place.{Place}
 use Rattle.zed_scene.specs.declared.error.SceneError.{SceneError}
 use Rattle.zed_scene.specs.declared.error.SceneError.TheVariants.{Memory, NoWords}
@@ -19,10 +19,10 @@ use Rattle.zed_scene.specs.Scene.{Scene, program_of, running_stat, there}
 use Rattle.zed_scene.specs.declared.step.Step.{Step as Way}
 use Rattle.zed_oop.specs.Acting.{with_position, skip_line}
 use Rattle.zed_scene.specs.Trying.{try_move}
-use Rattle.zed_script.specs.Command.{CommandAt, CommandKeeps}
+use Rattle.zed_oop_syntax.specs.Command.{CommandAt, CommandKeeps}
 use Rattle.zed_oop.specs.Effect.{EffectTakes, IsError, effect}
 use Rattle.zed_oop.specs.Leading.{led}
-use Rattle.zed_script.specs.Line.{InstructionAt, InstructionKeeps}
+use Rattle.zed_oop_syntax.specs.Line.{InstructionAt, InstructionKeeps}
 use Rattle.zed_scene.specs.Words.{Drawn}
 
 -- a turn in the middle: the board, the words of chance that are left, and the messages so far

@@ -2,8 +2,8 @@
 ghost use Rattle.std.specs.Prelude.{◌≡◌};
 ghost use Rattle.zed_oop.specs.Acting.{with_position, skip_line, with_cycle, with_p1, with_p2, with_step};
 
+use zed_oop_syntax::line_after;
 use zed_scene::{Scene, Step};
-use zed_script::line_after;
 
 /// How the turn goes on after an instruction.
 #[derive(Clone, Copy, PartialEq, Eq)]

@@ -4,8 +4,8 @@ ghost use Rattle.zed_oop.specs.Choosing.{asked, chosen, ChoiceTakes, sent_by};
 
 use crate::sending::{is_heard, send};
 use std::alloc::{AllocError, Global};
+use zed_oop_syntax::{ScrollLine, scroll_line, upper};
 use zed_scene::Scene;
-use zed_script::{ScrollLine, scroll_line, upper};
 
 /// What came of a choice.
 #[derive(Clone, Copy, Debug, PartialEq, Eq)]

@@ -2,8 +2,8 @@
 ghost use Rattle.std.specs.Prelude.{◌≡◌};
 ghost use Rattle.zed_oop.specs.Holding.{added, given, in_counter, taken, taken_from, with_counter};
 
+use zed_oop_syntax::Counter;
 use zed_scene::{Counters, Scene};
-use zed_script::Counter;
 
 fn in_counter(counters: Counters, counter: Counter) -> i16
     ensures { result ≡ in_counter counter counters }

@@ -3,11 +3,11 @@ ghost use Rattle.std.specs.Prelude.{◌≡◌};
 ghost use Rattle.zed_oop.specs.Leading.{course_led, led, north_or_east, turned, turned_all};
 ghost use Rattle.zed_scene.specs.Words.{Draws};
 
+use zed_oop_syntax::{Course, Heading, Turning};
 use zed_scene::{
     Scene, SceneError, Stat, Step, Words, clockwise, counter_clockwise, opposite, random_step,
     up_or_down,
 };
-use zed_script::{Course, Heading, Turning};
 
 /// A step, turned.
 fn turned(turning: Turning, step: Step, words: &mut Words) -> Result<Step, SceneError>

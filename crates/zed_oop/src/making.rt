@@ -5,8 +5,8 @@ ghost use Rattle.zed_types.specs.Table.{place_at};
 
 use crate::acting::set_position;
 use crate::sending::is_named;
+use zed_oop_syntax::TileKind;
 use zed_scene::{Scene, Stat, Step, ahead, is_walkable};
-use zed_script::TileKind;
 use zed_types::Place;
 
 /// The colour of what programs make without naming one.

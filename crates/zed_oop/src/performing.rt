@@ -8,7 +8,7 @@ ghost use Rattle.zed_oop.specs.Making.{became, bound};
 ghost use Rattle.zed_scene.specs.Removing.{with_health};
 ghost use Rattle.zed_oop.specs.Sending.{has_colon, sent};
 ghost use Rattle.zed_oop.specs.declared.acting.Next.TheVariants.{SkipAndEnd};
-ghost use Rattle.zed_script.specs.declared.commands.OopCommand.TheVariants.{If};
+ghost use Rattle.zed_oop_syntax.specs.declared.commands.OopCommand.TheVariants.{If};
 
 use crate::acting::{Next, set_cycle, set_p1, set_p2, set_position, set_step};
 use crate::holding::{give, take};
@@ -18,8 +18,8 @@ use crate::programs::{Relabelling, relabel_all};
 use crate::sending::send;
 use crate::testing::holds;
 use std::alloc::Global;
+use zed_oop_syntax::{Counter, Heading, OopCommand, Query, TileKind};
 use zed_scene::{Counters, Scene, SceneError, Shooter, Stat, Step, Words};
-use zed_script::{Counter, Heading, OopCommand, Query, TileKind};
 use zed_types::Place;
 
 /// Nothing at all, of any colour.

@@ -2,8 +2,10 @@
 ghost use Rattle.std.specs.Prelude.{◌≡◌, IfSome, None, position, slice_get};
 ghost use Rattle.zed_oop.specs.Sending.{arrived, is_colon, is_meant, is_named, is_number, is_own, is_reached, is_target, label_of, restore_at, restored_in, is_heard, is_heard_by, or_heard_by, send_one, sent, sent_alone, set_to, so_far, zapped_in};
 
+use zed_oop_syntax::{
+    byte_is, first_label, is_restart, is_word, is_word_at, label_at, label_place,
+};
 use zed_scene::{Scene, Stat};
-use zed_script::{byte_is, first_label, is_restart, is_word, is_word_at, label_at, label_place};
 use zed_types::Bytes;
 
 /// Where the target of a word ends.

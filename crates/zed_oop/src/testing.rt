@@ -4,8 +4,8 @@ ghost use Rattle.zed_oop.specs.Testing.{holds, is_any, is_aligned, is_in_contact
 ghost use Rattle.zed_scene.specs.Words.{Draws};
 
 use crate::leading::led;
+use zed_oop_syntax::{Query, Test, TileKind};
 use zed_scene::{Scene, SceneError, Stat, Step, Words, ahead, apart, has_flag, is_walkable};
-use zed_script::{Query, Test, TileKind};
 use zed_types::{Place, Tile};
 
 fn is_aligned(a: Place, b: Place) -> bool

@@ -8,8 +8,8 @@ use crate::acting::{Next, set_position, skip_line};
 use crate::leading::led;
 use crate::performing::perform;
 use std::alloc::{AllocError, Global};
+use zed_oop_syntax::{Heading, Instruction, OopCommand, next_command, standing_at};
 use zed_scene::{Scene, SceneError, Stat, Step, Words};
-use zed_script::{Heading, Instruction, OopCommand, next_command, standing_at};
 use zed_types::{Bytes, Place, Seq};
 
 /// What is read next.

@@ -4,7 +4,7 @@ use Rattle.zed_types.specs.declared.property.Side.{Side}
 use Rattle.zed_types.specs.declared.property.Side.TheVariants.{North, South, West, East}
 use Rattle.zed_types.specs.declared.tile.Place.{Place}
 use Rattle.zed_scene.specs.declared.stat.Stat.{Stat}
-use Rattle.zed_script.specs.declared.commands.Counter.TheVariants.{Ammo}
+use Rattle.zed_oop_syntax.specs.declared.commands.Counter.TheVariants.{Ammo}
 use Rattle.zed_scene.specs.Scene.{Scene, acting_stat, element_at, same_place}
 use Rattle.zed_scene.specs.declared.shooting.Shooter.TheVariants.{Player as PlayerShot}
 use Rattle.zed_scene.specs.declared.step.Step.{Step}

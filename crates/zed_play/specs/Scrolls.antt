@@ -2,7 +2,7 @@
 use Rattle.std.specs.Prelude.{ℕ, nat_le, if◌then◌else◌, List, [], ◌∷◌, length, codes, Option, Some, None}
 use Rattle.zed_scene.specs.declared.stat.Stat.{Stat}
 use Rattle.zed_scene.specs.Scene.{Scene, program_of, running_stat, with_scroll}
-use Rattle.zed_script.specs.Scroll.{name_of}
+use Rattle.zed_oop_syntax.specs.Scroll.{name_of}
 use Rattle.zed_oop.specs.declared.choosing.Chosen.{Chosen}
 use Rattle.zed_oop.specs.Choosing.{chosen as chosen_on}
 use Rattle.zed_play.specs.declared.scrolls.Voice.{Voice}

@@ -3,8 +3,8 @@ use Rattle.std.specs.Prelude.{◌≡◌, ℕ, ◌-◌, ◌%◌, ◌/◌, Bool, t
 use Rattle.zed_types.specs.declared.tile.Place.{Place}
 use Rattle.zed_types.specs.declared.tile.Tile.{Tile}
 use Rattle.zed_scene.specs.declared.stat.Stat.{Stat}
-use Rattle.zed_script.specs.declared.commands.Counter.{Counter}
-use Rattle.zed_script.specs.declared.commands.Counter.TheVariants.{Health, Ammo, Gems, Torches, Score}
+use Rattle.zed_oop_syntax.specs.declared.commands.Counter.{Counter}
+use Rattle.zed_oop_syntax.specs.declared.commands.Counter.TheVariants.{Health, Ammo, Gems, Torches, Score}
 use Rattle.zed_scene.specs.Scene.{Scene, element_at, empty_tile, put, put_stat, running_stat, stat_at, tile_at}
 use Rattle.zed_scene.specs.declared.step.Step.{Step}
 use Rattle.zed_oop.specs.Holding.{given}

@@ -1,6 +1,6 @@
 -- How a line of a scroll looks in a window of 49 columns, column by column.
 use Rattle.std.specs.Prelude.{ℕ, ◌+◌, ◌-◌, ◌/◌, Bool, ◌==◌, nat_lt, if◌then◌else◌, List, ◌∷◌, ◌++◌, [], codes, drop, length, slice_get, Option, Some, None}
-use Rattle.zed_script.specs.Scroll.{is_centred, is_choice, link_text}
+use Rattle.zed_oop_syntax.specs.Scroll.{is_centred, is_choice, link_text}
 use Rattle.zed_look.specs.declared.look.Spot.{Spot}
 
 -- a character in a colour

@@ -1,7 +1,7 @@
 -- The window of a scroll, place by place.
 use Rattle.std.specs.Prelude.{ℕ, ◌+◌, ◌-◌, ◌/◌, ◌%◌, Bool, false, ◌&&◌, ◌==◌, nat_le, nat_lt, if◌then◌else◌, List, ◌∷◌, ◌++◌, [], codes, length, slice_get, Option, Some, None}
 use Rattle.zed_scene.specs.declared.scroll.Scroll.{Scroll}
-use Rattle.zed_script.specs.Scroll.{is_choice}
+use Rattle.zed_oop_syntax.specs.Scroll.{is_choice}
 use Rattle.zed_look.specs.declared.look.Spot.{Spot}
 use Rattle.zed_scroll.specs.declared.frame.Window.{Window}
 use Rattle.zed_scroll.specs.Lines.{centred_from, ground, line_spot, over, spot}

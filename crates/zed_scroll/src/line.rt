@@ -3,7 +3,7 @@ ghost use Rattle.std.specs.Prelude.{◌≡◌, length};
 ghost use Rattle.zed_scroll.specs.Lines.{centred_from, ground, line_spot, marked, or_behind, over, spot};
 
 use zed_look::Spot;
-use zed_script::{ScrollLine, scroll_line};
+use zed_oop_syntax::{ScrollLine, scroll_line};
 
 /// White on blue.
 const WHITE: u8 = 31;

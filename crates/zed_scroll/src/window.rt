@@ -1,13 +1,13 @@
 //! The window of a scroll, place by place.
 ghost use Rattle.std.specs.Prelude.{◌≡◌, ◌≤◌, ◌<◌, ◌==◌, length, slice_get};
-ghost use Rattle.zed_script.specs.Scroll.{is_choice};
+ghost use Rattle.zed_oop_syntax.specs.Scroll.{is_choice};
 ghost use Rattle.zed_scroll.specs.Window.{above, below, dots, framed, heading, heading_spot, inner_spot, is_choice_at, line_or_dots, prompt, window_spot};
 
 use crate::frame::{is_inside, lower_edge, middle_edge, side_edge, upper_edge};
 use crate::line::{centred_from, ground, line_spot, over, spot};
 use zed_look::Spot;
+use zed_oop_syntax::{ScrollLine, scroll_line};
 use zed_scene::Scroll;
-use zed_script::{ScrollLine, scroll_line};
 
 /// What is told where the line in the middle is a choice.
 const PROMPT: &[u8] = b"\xAEPress ENTER to select this\xAF";

@@ -1,7 +1,7 @@
 -- What is shown over a playtest, and what is to be done for what is typed.
 use Rattle.std.specs.Prelude.{ℕ, ◌+◌, ◌-◌, Bool, false, nat_le, if◌then◌else◌, List, [], slice_get, length, Option, Some, None}
 use Rattle.zed_scene.specs.declared.scroll.Scroll.{Scroll}
-use Rattle.zed_script.specs.Scroll.{is_choice}
+use Rattle.zed_oop_syntax.specs.Scroll.{is_choice}
 use Rattle.zed_oop.specs.declared.choosing.Chosen.{Chosen}
 use Rattle.zed_oop.specs.declared.choosing.Chosen.TheVariants.{Gone}
 use Rattle.zed_play.specs.declared.key.Key.{Key}

@@ -1,13 +1,13 @@
 //! What is shown over a playtest: what was said in its last step.
 ghost use Rattle.std.specs.Prelude.{◌≡◌, ◌+◌, None, slice_get};
-ghost use Rattle.zed_script.specs.Scroll.{is_choice};
+ghost use Rattle.zed_oop_syntax.specs.Scroll.{is_choice};
 ghost use Rattle.zed_terminal.specs.Overlaid.{asked, asked_alone, asked_in, behind, closed, down, entered, is_choice_at, lines_of, moved, opened, paged, up};
 
 use crate::input::{Input, Page, Size};
 use crate::moves::{Choice, Move};
 use std::cmp;
+use zed_oop_syntax::{ScrollLine, scroll_line};
 use zed_play::{Chosen, Key, Play};
-use zed_script::{ScrollLine, scroll_line};
 use zed_types::Bytes;
 
 /// The scroll that is open, of those of a step, and the line in its middle, both counted from 0.

@@ -1,5 +1,5 @@
 use Rattle.std.proofs.Common.{◌≡◌, ℕ, suc, ◌-◌, Some, drop, subst, rules, arith}
-use Rattle.zed_script.specs.declared.heading.Turning.TheVariants.{Clockwise}
+use Rattle.zed_oop_syntax.specs.declared.heading.Turning.TheVariants.{Clockwise}
 use Rattle.zed_oop.specs.Leading.{turned_all}
 use Rattle.zed_oop.proofs.LeadingLemmas.{turned_lacks}
 use Rattle.zed_oop.proofs.leading.turned_all.Goals as goal

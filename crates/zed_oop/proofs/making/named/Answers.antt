@@ -1,6 +1,6 @@
 use Rattle.std.proofs.Common.{ap, length, slice_get, sym, rules, arith}
 use Rattle.zed_oop.specs.Making.{has_name, named}
-use Rattle.zed_script.proofs.LeastLemmas.{least_is}
+use Rattle.zed_oop_syntax.proofs.LeastLemmas.{least_is}
 use Rattle.zed_oop.proofs.making.named.Goals as goal
 
 pub returns-then-has_name : goal.returns-then-has_name

@@ -1,5 +1,5 @@
 use Rattle.std.proofs.Common.{◌≡◌, None, slice_get}
-use Rattle.zed_script.specs.Label.{least}
+use Rattle.zed_oop_syntax.specs.Label.{least}
 use Rattle.zed_oop.specs.Making.{has_name}
 use Rattle.zed_oop.proofs.making.named.Given as goal
 

@@ -1,0 +1,4 @@
+use Rattle.zed_oop_syntax.proofs.kinds.+element_below.Given as goal
+
+abbrev pub decreases-element_below : goal.decreases-element_below
+decreases-element_below l = l.n

@@ -1,4 +1,0 @@
-use Rattle.zed_script.proofs.kinds.+element_below.Given as goal
-
-abbrev pub decreases-element_below : goal.decreases-element_below
-decreases-element_below l = l.n

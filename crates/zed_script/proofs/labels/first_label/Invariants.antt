@@ -1,6 +1,0 @@
-use Rattle.std.proofs.Common.{◌≡◌, None}
-use Rattle.zed_script.specs.Label.{label_at, least}
-use Rattle.zed_script.proofs.labels.first_label.Given as goal
-
-abbrev pub invariant-loop-at : goal.invariant-loop-at
-invariant-loop-at l = least (label_at 58 l.program l.label) l.at ≡ None
