@@ -1,4 +1,3 @@
-pub mod Edits
 pub mod Laws
 pub mod Linted
 pub mod Listed

@@ -3,17 +3,14 @@
 #![tactic(auto)]
 
 mod boards;
-mod edits;
-mod filter;
 mod linting;
 mod listing;
 mod logging;
-mod sought;
 mod world;
 
-pub use filter::Filter;
 pub use linting::{Lint, Strictness};
 pub use listing::{List, Listing};
 pub use logging::{Log, no_filter_leaves_an_edit_out};
 pub use world::shown_world;
+pub use zed_filter::{BoardChoice, Filter};
 pub use zed_log::Length;

@@ -3,17 +3,15 @@ ghost use Rattle.zed_driver.specs.declared.command.Stop.TheVariants.{Memory};
 ghost use Rattle.std.specs.Prelude.{[], ◌∷◌, ◌≡◌, ◌⊎◌, false, filter, IfErr, IfOk, List, MatchResult, Ok, Err, Some};
 ghost use Rattle.zed_edit.specs.Replay.{replay};
 ghost use Rattle.zed_log.specs.Laws.{log_at};
-ghost use Rattle.cmd_log.specs.Edits.{passes as passes_all};
+ghost use Rattle.zed_filter.specs.Passing.{passes as passes_all};
 ghost use Rattle.cmd_log.specs.Laws.{TellsAllUnfiltered};
-ghost use Rattle.cmd_log.specs.Logged.{is_held, log_of};
+ghost use Rattle.cmd_log.specs.Logged.{filter_stop as filtering_stop, is_held, log_of};
 
-use crate::edits::passes;
-use crate::filter::Filter;
-use crate::sought::{Sought, sought_of};
 use std::alloc::{AllocError, Global};
 use zed_document::{Document, View};
 use zed_driver::{Effect, Stop};
 use zed_files::Telling;
+use zed_filter::{Filter, FilterError, Sought, passes, sought_of};
 use zed_log::{Length, marked_line_at};
 use zed_refusal::{Reason, document_stop};
 
@@ -57,9 +55,19 @@ fn lines_sought(
     Ok(lines_of(alloc, document, &view, length, sought)?)
 }
 
+// Why it stops at a filter.
+fn filter_stop(error: FilterError) -> Stop<Reason>
+    ensures { result ≡ filtering_stop error }
+{
+    match error {
+        FilterError::NoBoard => Stop::Refused(Reason::NoBoard),
+        FilterError::OutOfRange => Stop::Refused(Reason::OutOfRange),
+    }
+}
+
 /// The lines of the edits that pass a filter, of a document that isn't stale. Refusals, in order:
-/// NoBoard if there is no board of the filter's number; OutOfRange if its cell is outside the
-/// table; NoBoard if the cell's board isn't there.
+/// NoBoard if there is no board of the filter's number, or none of its name was made; OutOfRange if
+/// its cell is outside the table; NoBoard if the cell's board isn't there.
 pub(crate) fn log_text(
     alloc: Global,
     document: &Document,
@@ -73,14 +81,14 @@ pub(crate) fn log_text(
 {
     match sought_of(document, filter) {
         Ok(sought) => lines_sought(alloc, document, length, &sought),
-        Err(refusal) => Err(refusal),
+        Err(error) => Err(filter_stop(error)),
     }
 }
 
 /// `log` prints a line for each edit that passes a filter, short or in full, in stamp order, in the
 /// forms of docs/LOG.md. Held edits have a mark in front. Refusals, in order: those of reading the
-/// files; NoBoard if there is no board of the filter's number; OutOfRange if its cell is outside the
-/// table; NoBoard if the cell's board isn't there.
+/// files; NoBoard if there is no board of the filter's number, or none of its name was made;
+/// OutOfRange if its cell is outside the table; NoBoard if the cell's board isn't there.
 #[derive(Drop)]
 pub struct Log {
     pub length: Length,

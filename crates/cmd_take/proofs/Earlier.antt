@@ -1,29 +1,30 @@
--- The edits up to a time.
-use Rattle.std.proofs.Common.{◌≡◌, ◌∙◌, ℕ, Bool, true, false, cond, List, [], ◌∷◌, ◌++◌, Some, ap, append-nil, refl, sym}
-use Rattle.std.specs.Prelude.{filter, nat_le}
+-- The edits up to a stamp.
+use Rattle.std.proofs.Common.{◌≡◌, ◌∙◌, Bool, true, false, cond, List, [], ◌∷◌, ◌++◌, Some, ap, append-nil, refl, sym}
+use Rattle.std.specs.Prelude.{filter, not}
 use Rattle.std.specs.List.{AllByRecursion}
 use Rattle.std.proofs.lemmas.List.Elements.{filter-append}
+use Rattle.zed_types.specs.declared.stamp.Stamp.{Stamp}
 use Rattle.zed_types.specs.Stamp.{before}
 use Rattle.zed_op.specs.declared.op.Edit.{Edit}
 use Rattle.zed_op.specs.Fit.{Fits}
 use Rattle.zed_op.specs.Set.{AllFit, IsRising}
 use Rattle.cmd_take.specs.Opening.{up_to}
 
--- whether an edit is of a time or of an earlier one
-abbrev is_early : ℕ → Edit → Bool
-is_early time e = nat_le e.stamp.time time
+-- whether an edit is of a stamp or of an earlier one
+abbrev is_early : Stamp → Edit → Bool
+is_early last e = not (before last e.stamp)
 
 -- one edit more of those looked at
-pub one_looked : (time : ℕ) (fs gs : List Edit) (f : Edit) (old now : List Edit) → gs ≡ fs ++ f ∷ [] → old ≡ up_to (Some time) fs
-    → now ≡ cond (is_early time f) (old ++ f ∷ []) old → now ≡ up_to (Some time) gs
-one_looked time fs gs f old now is was put = go (is_early time f) refl put ∙ sym split
+pub one_looked : (last : Stamp) (fs gs : List Edit) (f : Edit) (old now : List Edit) → gs ≡ fs ++ f ∷ [] → old ≡ up_to (Some last) fs
+    → now ≡ cond (before last f.stamp) old (old ++ f ∷ []) → now ≡ up_to (Some last) gs
+one_looked last fs gs f old now is was put = go (before last f.stamp) refl put ∙ sym split
   where
-    split : up_to (Some time) gs ≡ up_to (Some time) fs ++ up_to (Some time) (f ∷ [])
-    split = ap (up_to (Some time)) is ∙ filter-append (λ (g : Edit). nat_le g.stamp.time time) fs (f ∷ [])
+    split : up_to (Some last) gs ≡ up_to (Some last) fs ++ up_to (Some last) (f ∷ [])
+    split = ap (up_to (Some last)) is ∙ filter-append (λ (g : Edit). not (before last g.stamp)) fs (f ∷ [])
 
-    go : (b : Bool) → is_early time f ≡ b → now ≡ cond b (old ++ f ∷ []) old → now ≡ up_to (Some time) fs ++ up_to (Some time) (f ∷ [])
-    go true h q = q ∙ ap (λ es. es ++ f ∷ []) was ∙ sym (rw h refl)
-    go false h q = q ∙ was ∙ sym (rw h (append-nil (up_to (Some time) fs)))
+    go : (b : Bool) → before last f.stamp ≡ b → now ≡ cond b old (old ++ f ∷ []) → now ≡ up_to (Some last) fs ++ up_to (Some last) (f ∷ [])
+    go false h q = q ∙ ap (λ es. es ++ f ∷ []) was ∙ sym (rw h refl)
+    go true h q = q ∙ was ∙ sym (rw h (append-nil (up_to (Some last) fs)))
 
 -- what holds of all holds of some of them
 all_of : (P : Edit → Type 0) (p : Edit → Bool) (es : List Edit) → AllByRecursion P es → AllByRecursion P (filter p es)
@@ -45,8 +46,8 @@ rising_of p (e ∷ es) rising = go (p e) (rising_of p es rising.1)
     go true rest = (later, rest)
     go false rest = rest
 
-pub early_fit : (time : ℕ) (es : List Edit) → AllFit es → AllFit (up_to (Some time) es)
-early_fit time es fit = all_of Fits (is_early time) es fit
+pub early_fit : (last : Stamp) (es : List Edit) → AllFit es → AllFit (up_to (Some last) es)
+early_fit last es fit = all_of Fits (is_early last) es fit
 
-pub early_rising : (time : ℕ) (es : List Edit) → IsRising es → IsRising (up_to (Some time) es)
-early_rising time es rising = rising_of (is_early time) es rising
+pub early_rising : (last : Stamp) (es : List Edit) → IsRising es → IsRising (up_to (Some last) es)
+early_rising last es rising = rising_of (is_early last) es rising

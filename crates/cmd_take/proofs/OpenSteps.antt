@@ -2,6 +2,7 @@
 use Rattle.std.proofs.Common.{◌≡◌, ◌∙◌, ℕ, true, false, List, [], ◌∷◌, ◌++◌, append-nil, Option, Some, None, Result, Ok, Err, ap, refl, subst, sym, inl, inr}
 use Rattle.std.specs.Prelude.{◌⊎◌, string_bytes}
 use Rattle.std.specs.Str.{bytes_eq}
+use Rattle.zed_types.specs.declared.stamp.Stamp.{Stamp}
 use Rattle.zed_op.specs.declared.op.Edit.{Edit}
 use Rattle.zed_world.specs.Contents.{Contents}
 use Rattle.zed_edit.specs.Replay.{replay}
@@ -27,7 +28,7 @@ use Rattle.cmd_take.proofs.Files.{other_asks, other_reads, own_reads, there_too}
 use Rattle.cmd_take.proofs.Steps.{led_by, read_led, read_led_last}
 
 -- what goes on from a stage goes on so where that goes on from another
-pub leads_by : (until : Option ℕ) (forcing : Forcing) (file world : List ℕ) (files : List Input) (Wants WantsNow : Wanting) (Comes ComesNow : Coming) (result : Result OpenStage DrawingStop)
+pub leads_by : (until : Option Stamp) (forcing : Forcing) (file world : List ℕ) (files : List Input) (Wants WantsNow : Wanting) (Comes ComesNow : Coming) (result : Result OpenStage DrawingStop)
     → IsLed files Wants Comes WantsNow ComesNow → OpenLeads until forcing file world [] WantsNow ComesNow result → OpenLeads until forcing file world files Wants Comes result
 leads_by until forcing file world files Wants WantsNow Comes ComesNow (Ok s) led is =
     (is.0, led_by files Wants WantsNow (OpenWantsNow until forcing file world s) Comes ComesNow (OpenComesNow until forcing file world s) led is.1)
@@ -45,7 +46,7 @@ written_led world f bytes x is = record {
 -- ---- FILE
 
 -- it was refused, or memory is lacking for it
-pub opened_not : (until : Option ℕ) (forcing : Forcing) (file world : List ℕ) (i : Input) (e : DrawingStop)
+pub opened_not : (until : Option Stamp) (forcing : Forcing) (file world : List ℕ) (i : Input) (e : DrawingStop)
     → (e ≡ Memory → BeginsWithBytes (i ∷ [])) → (e ≡ Memory) ⊎ OpensAs None i (Err e)
     → OpenComes until forcing file world (i ∷ []) (Err e)
 opened_not until forcing file world i e there why = elim why [
@@ -54,7 +55,7 @@ opened_not until forcing file world i e there why = elim why [
 ]
 
 -- it can't be exported
-pub exported_not : (until : Option ℕ) (forcing : Forcing) (file world : List ℕ) (i : Input) (f : FileEdits) (e : DrawingStop)
+pub exported_not : (until : Option Stamp) (forcing : Forcing) (file world : List ℕ) (i : Input) (f : FileEdits) (e : DrawingStop)
     → BeginsWithBytes (i ∷ []) → OpensAs None i (Ok f) → (e ≡ Memory) ⊎ IsExported (up_to until f.1) (Err e)
     → OpenComes until forcing file world (i ∷ []) (Err e)
 exported_not until forcing file world i f e there opens why = elim why [
@@ -63,7 +64,7 @@ exported_not until forcing file world i f e there opens why = elim why [
 ]
 
 -- it was opened and exported
-pub opened_led : (until : Option ℕ) (forcing : Forcing) (file world : List ℕ) (i : Input) (f : FileEdits) (text : List ℕ)
+pub opened_led : (until : Option Stamp) (forcing : Forcing) (file world : List ℕ) (i : Input) (f : FileEdits) (text : List ℕ)
     → BeginsWithBytes (i ∷ []) → OpensAs None i (Ok f) → IsExported (up_to until f.1) (Ok text)
     → IsLed (i ∷ []) (OpenWants until forcing file world) (OpenComes until forcing file world)
     (LookAsks forcing f (up_to until f.1) file world) (OrMemory (Replaces forcing f (up_to until f.1) file world text))
@@ -182,7 +183,7 @@ some_same : (a b : List ℕ) → named a ≡ named b → b ≡ a
 some_same a b is = cc
 
 -- the next file is asked for
-pub next_is_wanted : (until : Option ℕ) (forcing : Forcing) (file world : List ℕ) (stage : OpenStage) (name : List ℕ)
+pub next_is_wanted : (until : Option Stamp) (forcing : Forcing) (file world : List ℕ) (stage : OpenStage) (name : List ℕ)
     → open_next file world stage ≡ Some name
     → OpenWantsNow until forcing file world stage [] name
 next_is_wanted until forcing file world Begun name is = some_same file name is
@@ -198,7 +199,7 @@ asks_yet file world at stage name is some none =
     let no : Some name ≡ None = sym some ∙ ap (open_next file world) is ∙ none in cc
 
 -- it comes to its effect
-pub ends_done : (until : Option ℕ) (forcing : Forcing) (file world : List ℕ) (stage : OpenStage) (x : Effect) → Done x ≡ stage
+pub ends_done : (until : Option Stamp) (forcing : Forcing) (file world : List ℕ) (stage : OpenStage) (x : Effect) → Done x ≡ stage
     → OpenComesNow until forcing file world stage [] (Ok x)
 ends_done until forcing file world stage x is =
     subst (λ s. OpenComesNow until forcing file world s [] (Ok x)) is (refl, refl)

@@ -1,11 +1,13 @@
 -- What `open` comes to.
+use Rattle.zed_types.specs.declared.stamp.Stamp.{Stamp}
+use Rattle.zed_types.specs.Stamp.{before}
 use Rattle.zed_op.specs.declared.op.Edit.{Edit}
 use Rattle.zed_export.specs.declared.error.ExportError.{ExportError}
 use Rattle.cmd_take.specs.declared.base.Presence.TheVariants.{Optional}
 use Rattle.cmd_take.specs.declared.reason.DrawingReason.TheVariants.{NotTaken}
 use Rattle.cmd_take.specs.declared.opening.Forcing.{Forcing}
 use Rattle.cmd_take.specs.declared.opening.Forcing.TheVariants.{Careful, Forced}
-use Rattle.std.specs.Prelude.{◌≡◌, ◌≢◌, ◌⊎◌, ℕ, List, [], ◌∷◌, filter, length, nat_le, Option, Some, None, Result, Ok, Err, ⊤}
+use Rattle.std.specs.Prelude.{◌≡◌, ◌≢◌, ◌⊎◌, ℕ, List, [], ◌∷◌, filter, length, not, Option, Some, None, Result, Ok, Err, ⊤}
 use Rattle.zed_world.specs.Contents.{Contents}
 use Rattle.zed_world.specs.Reading.{world_at}
 use Rattle.zed_driver.specs.declared.command.Stop.TheVariants.{File, Refused}
@@ -26,10 +28,10 @@ use Rattle.cmd_take.specs.Files.{IsWorld, OpensAs}
 use Rattle.cmd_take.specs.Stops.{DrawingStop, drawing_stop}
 use Rattle.cmd_take.specs.Steps.{Asks, AsksNoMore, Coming, Does, Ends, OrLacks, Reads, Steps}
 
--- the edits up to a time, it among them; all of them where none is given
-abbrev pub up_to : Option ℕ → List Edit → List Edit
+-- the edits up to a stamp, those of that stamp and of earlier ones; all of them where none is given
+abbrev pub up_to : Option Stamp → List Edit → List Edit
 up_to None es = es
-up_to (Some time) es = filter (λ e. nat_le e.stamp.time time) es
+up_to (Some last) es = filter (λ e. not (before last e.stamp)) es
 
 -- an exported value, or the refusal of the export
 abbrev pub export_told : {X : Type 0} → Result X ExportError → Result X DrawingStop
@@ -81,13 +83,13 @@ abbrev pub Replaces : Forcing → FileEdits → List Edit → List ℕ → List 
 Replaces Careful f shown file world bytes files r = Reads TriedWorld (FoundReads f shown file world bytes) files r
 Replaces Forced f shown file world bytes files r = Ends (IsWritten world f bytes) files r
 
--- what FILE comes to, up to a time
-abbrev pub Shown : Option ℕ → Forcing → List ℕ → List ℕ → FileEdits → List Input → Result Effect DrawingStop → Type 0
+-- what FILE comes to, up to a stamp
+abbrev pub Shown : Option Stamp → Forcing → List ℕ → List ℕ → FileEdits → List Input → Result Effect DrawingStop → Type 0
 Shown until forcing file world f files r =
     Does (IsExported (up_to until f.1)) (Replaces forcing f (up_to until f.1) file world) files r
 
 -- what `open` comes to: its effect, or the first refusal
-abbrev pub OpenComes : Option ℕ → Forcing → List ℕ → List ℕ → List Input → Result Effect DrawingStop → Type 0
+abbrev pub OpenComes : Option Stamp → Forcing → List ℕ → List ℕ → List Input → Result Effect DrawingStop → Type 0
 OpenComes until forcing file world files r = OrLacks (Reads (OpensAs None) (Shown until forcing file world)) files r
 
 -- WORLD is there, and is another world than these edits show
@@ -110,7 +112,7 @@ abbrev pub ShownAsks : Forcing → FileEdits → List Edit → List ℕ → List
 ShownAsks forcing f shown file world files wanted =
     ((text : List ℕ) × IsExported shown (Ok text)) × LookAsks forcing f shown file world files wanted
 
--- what `open` asks for: FILE, and what is needed for its edits up to the time
-abbrev pub OpenWants : Option ℕ → Forcing → List ℕ → List ℕ → List Input → List ℕ → Type 0
+-- what `open` asks for: FILE, and what is needed for its edits up to the stamp
+abbrev pub OpenWants : Option Stamp → Forcing → List ℕ → List ℕ → List Input → List ℕ → Type 0
 OpenWants until forcing file world files wanted =
     Asks file (OpensAs None) (λ f. ShownAsks forcing f (up_to until f.1) file world) files wanted

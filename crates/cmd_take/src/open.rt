@@ -17,6 +17,7 @@ use std::alloc::Global;
 use std::mem::replace;
 use zed_document::Document;
 use zed_driver::{Command, Effect, Input, Stop};
+use zed_types::Stamp;
 use zed_world::World;
 
 /// Writes the world of an edit file for another editor, and the base beside it. FILE is read; then
@@ -25,7 +26,7 @@ use zed_world::World;
 /// for only if FILE is there.
 #[derive(Drop)]
 pub struct Open<'a> {
-    until: Option<u64>,
+    until: Option<Stamp>,
     forcing: Forcing,
     file: &'a str,
     world: &'a str,
@@ -34,7 +35,7 @@ pub struct Open<'a> {
 
 impl<'a> Open<'a> {
     /// Before a file was read.
-    pub fn new(until: Option<u64>, forcing: Forcing, file: &'a str, world: &'a str) -> Open<'a>
+    pub fn new(until: Option<Stamp>, forcing: Forcing, file: &'a str, world: &'a str) -> Open<'a>
         ensures until { result.until ≡ until }
         ensures forcing { result.forcing ≡ forcing }
         ensures file { result.file ≡ file.entry }

@@ -1,5 +1,6 @@
 //! A world file that is written for another editor, with the base beside it.
-ghost use Rattle.std.specs.Prelude.{◌≡◌, ◌∷◌, ◌++◌, [], if◌then◌else◌, nat_le, Err, IfErr, IfOk, List, OnErr, OnOk, MatchBool, None, Some, IfSome, false, option_map};
+ghost use Rattle.std.specs.Prelude.{◌≡◌, ◌∷◌, ◌++◌, [], if◌then◌else◌, Err, IfErr, IfOk, List, OnErr, OnOk, MatchBool, None, Some, IfSome, false, option_map};
+ghost use Rattle.zed_types.specs.Stamp.{before};
 ghost use Rattle.zed_op.specs.declared.op.Edit.{Edit as TheEdit};
 ghost use Rattle.zed_driver.specs.declared.command.Stop.TheVariants.{Memory};
 ghost use Rattle.zed_edit.specs.Replay.{replay};
@@ -23,7 +24,7 @@ use zed_export::save;
 use zed_files::{bytes_told, deliver_all};
 use zed_op::rising_lists_are_sets;
 use zed_refusal::export_stop;
-use zed_types::READ_BODY_LIMIT;
+use zed_types::{READ_BODY_LIMIT, Stamp};
 use zed_world::{World, WorldError, write_world};
 
 /// Whether `open` replaces a world file that was drawn in, and whether `take` removes more than half
@@ -36,12 +37,12 @@ pub enum Forcing {
     Forced,
 }
 
-// Adds a copy of an edit, unless it is later than a time.
-fn push_up_to(copies: &mut Vec<Edit>, edit: &Edit, time: u64) -> Result<(), AllocError>
-    ensures { OnOk result (copies.new.items ≡ (if nat_le edit.now.stamp.time time
-        then copies.old.items ++ edit.now ∷ [] else copies.old.items)) }
+// Adds a copy of an edit, unless its stamp is behind the last one.
+fn push_up_to(copies: &mut Vec<Edit>, edit: &Edit, last: Stamp) -> Result<(), AllocError>
+    ensures { OnOk result (copies.new.items ≡ (if before last edit.now.stamp
+        then copies.old.items else copies.old.items ++ edit.now ∷ [])) }
 {
-    if edit.stamp.time > time {
+    if last.is_before(edit.stamp) {
         return Ok(());
     }
     let Ok(copy) = edit.copy() else {
@@ -51,23 +52,23 @@ fn push_up_to(copies: &mut Vec<Edit>, edit: &Edit, time: u64) -> Result<(), Allo
     Ok(())
 }
 
-// Copies of the edits up to a time.
-fn edits_up_to(alloc: Global, edits: &[Edit], time: u64) -> Result<Vec<Edit>, AllocError>
-    ensures { IfOk result (λ copies. copies.items ≡ up_to (Some time) edits.now) }
+// Copies of the edits up to a stamp.
+fn edits_up_to(alloc: Global, edits: &[Edit], last: Stamp) -> Result<Vec<Edit>, AllocError>
+    ensures { IfOk result (λ copies. copies.items ≡ up_to (Some last) edits.now) }
 {
     let mut copies = Vec::new(alloc);
     for edit in edits {
-        push_up_to(&mut copies, edit, time)?;
+        push_up_to(&mut copies, edit, last)?;
     }
     Ok(copies)
 }
 
-// A document of its own with the edits of another one up to a time.
-fn copy_up_to(alloc: Global, document: &Document, time: u64) -> Result<Document, AllocError>
-    ensures edits { IfOk result (λ copy. copy.edits ≡ up_to (Some time) document.now.edits) }
+// A document of its own with the edits of another one up to a stamp.
+fn copy_up_to(alloc: Global, document: &Document, last: Stamp) -> Result<Document, AllocError>
+    ensures edits { IfOk result (λ copy. copy.edits ≡ up_to (Some last) document.now.edits) }
     ensures sound { IfOk result (λ copy. copy.is_stale ≡ false) }
 {
-    let edits = edits_up_to(alloc, document.edits(), time)?;
+    let edits = edits_up_to(alloc, document.edits(), last)?;
     rising_lists_are_sets();
     let mut copy = Document::new(alloc, document.world());
     // Edits of one document don't clash, so this can lack nothing but memory.
@@ -91,11 +92,11 @@ fn saved(alloc: Global, document: &Document) -> Result<Vec<u8>, Stop<DrawingReas
     }
 }
 
-/// The world file of a document as it was at a time, or as it is.
+/// The world file of a document as its edits up to a stamp make it, or all of them.
 pub(crate) fn exported(
     alloc: Global,
     document: &Document,
-    until: Option<u64>,
+    until: Option<Stamp>,
 ) -> Result<Vec<u8>, Stop<DrawingReason>>
     requires { document.now.is_stale ≡ false }
     ensures exported { Gives (λ text. text.items)
@@ -106,8 +107,8 @@ pub(crate) fn exported(
 {
     match until {
         None => saved(alloc, document),
-        Some(time) => {
-            let earlier = copy_up_to(alloc, document, time)?;
+        Some(last) => {
+            let earlier = copy_up_to(alloc, document, last)?;
             saved(alloc, &earlier)
         }
     }

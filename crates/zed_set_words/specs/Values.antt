@@ -133,6 +133,18 @@ stamp_of word = do
   replica ← number_of 65535 parts.1
   Some (record { time = time; replica = replica })
 
+-- the time of a moment
+abbrev pub time_of : Word → Option ℕ
+time_of word = number_of 281474976710655 word
+
+-- the first stamp of a moment: a stamp is itself, and a time begins with its replica 0
+abbrev pub first_of : Word → Option Stamp
+first_of word = or_else (stamp_of word) (option_map (λ t. record { time = t; replica = 0 }) (time_of word))
+
+-- the last one: a time ends with its replica 65535
+abbrev pub last_of : Word → Option Stamp
+last_of word = or_else (stamp_of word) (option_map (λ t. record { time = t; replica = 65535 }) (time_of word))
+
 -- a board: its name, or its number
 abbrev pub board_of : Word → Option BoardPlace
 board_of word = or_else (option_map (λ n. board.Named (record { name = n })) (name_of word)) (option_map board.Numbered (short_of word))

@@ -16,7 +16,7 @@ mod world;
 
 pub use bad::{BadWord, Expected};
 pub use laws::wrong_word_is_the_first;
-pub use place::stamp;
+pub use place::{board_place, first_stamp, last_stamp, stamp};
 pub use reading::wish;
 pub use text::Text;
 pub use wishes::{BoardPlace, BoardWish, P3Wish, StatPlace, StatWish, Wish, WorldWish};

@@ -1,6 +1,6 @@
 //! Things in words: by their numbers, or by their names.
 ghost use Rattle.std.specs.Prelude.{◌≡◌};
-ghost use Rattle.zed_set_words.specs.Values.{board_of, name_of, other_of, stamp_of, text_of, unless_none as but_none};
+ghost use Rattle.zed_set_words.specs.Values.{board_of, first_of, last_of, name_of, other_of, stamp_of, text_of, unless_none as but_none};
 
 use crate::numerals::{index, number, short};
 use crate::thing::cut;
@@ -35,7 +35,34 @@ pub fn stamp(word: &str) -> Option<Stamp>
     Some(Stamp { time, replica })
 }
 
-pub(crate) fn board_place(word: &str) -> Option<BoardPlace>
+/// The first stamp of a moment: a stamp is itself, and a time begins with its replica 0.
+pub fn first_stamp(word: &str) -> Option<Stamp>
+    ensures { result ≡ first_of word.now }
+{
+    match stamp(word) {
+        Some(stamp) => Some(stamp),
+        None => Some(Stamp {
+            time: number(word, MOST_OF_TIME)?,
+            replica: 0,
+        }),
+    }
+}
+
+/// The last stamp of a moment: a stamp is itself, and a time ends with its replica 65,535.
+pub fn last_stamp(word: &str) -> Option<Stamp>
+    ensures { result ≡ last_of word.now }
+{
+    match stamp(word) {
+        Some(stamp) => Some(stamp),
+        None => Some(Stamp {
+            time: number(word, MOST_OF_TIME)?,
+            replica: 65535,
+        }),
+    }
+}
+
+/// A board: its number, or its name, such as `2.1:0`.
+pub fn board_place(word: &str) -> Option<BoardPlace>
     ensures { result ≡ board_of word.now }
 {
     match name(word) {

@@ -1,11 +1,13 @@
 -- Edits that lead to a world, in two parts; and documents that show none.
-use Rattle.std.proofs.Common.{◌≡◌, ◌∙◌, ℕ, List, [], ◌∷◌, ◌++◌, Option, Some, None, Result, Ok, Err, ap, refl, subst, sym}
-use Rattle.std.specs.Prelude.{◌≢◌}
+use Rattle.std.proofs.Common.{◌≡◌, ◌∙◌, ℕ, List, [], ◌∷◌, ◌++◌, Option, Some, None, Result, Ok, Err, ap, refl, subst, sym, inl, inr}
+use Rattle.std.specs.Prelude.{◌≢◌, ◌⊎◌}
 use Rattle.zed_types.specs.declared.stamp.Stamp.{Stamp}
 use Rattle.zed_op.specs.declared.op.Edit.{Edit}
 use Rattle.zed_op.specs.Set.{AllFit, union, with_edit}
 use Rattle.zed_world.specs.Contents.{Contents}
-use Rattle.zed_world.specs.Writing.{world_text}
+use Rattle.zed_world.specs.declared.error.WorldError.{WorldError}
+use Rattle.zed_world.specs.declared.error.WorldError.TheVariants as worlds
+use Rattle.zed_world.specs.Writing.{HasText, unless_refused, world_text, written}
 use Rattle.zed_edit.specs.declared.plain.Plain.{Plain}
 use Rattle.zed_edit.specs.Replay.{replay}
 use Rattle.zed_document.specs.Replica.{Replica}
@@ -47,6 +49,19 @@ leads_so es all w first is both from = record {
 -- what is saved isn't the text of a world: that isn't shown
 pub not_shown : (p : Plain) (w : Contents) (file : List ℕ) → saved 32767 p ≡ Ok file → file ≢ world_text w → exported 32767 p ≡ Ok w → ⊥
 not_shown p w file is other shows = showing.not_shown p w file is other shows
+
+abbrev as_text : List ℕ → Result (List ℕ) WorldError
+as_text bytes = Ok bytes
+
+-- a world that is refused for another reason than want of memory has no text
+pub over_has_none : (w : Contents) (e : WorldError) → (e ≡ worlds.Memory → ⊥) → (e ≡ worlds.Memory) ⊎ (written 32767 w ≡ Err e)
+    → HasText 32767 w
+    → ⊥
+unfolding written
+over_has_none w e other why none = elim why [
+  | inl lack ↦ other lack
+  | inr over ↦ (let no : as_text (world_text w) ≡ Err e = sym (ap (λ o. unless_refused o (world_text w)) none) ∙ over in cc)
+]
 
 -- a document that is over a limit shows no world
 pub over_shown : {X : Type 0} (view : X → List ℕ) (d : Replica) (e : ExportError) → Answers view (unless_over (refusal_of 32767 (replay d.edits)) (world_text (world_of (replay d.edits)))) (Err e)

@@ -8,12 +8,15 @@ use Rattle.zed_edit.specs.declared.plain.Plain.{Plain}
 use Rattle.zed_edit.specs.Replay.{replay}
 use Rattle.zed_document.specs.Held.{held_stamps, is_among}
 use Rattle.zed_history.specs.Finding.{edit_with}
+use Rattle.zed_filter.specs.declared.error.FilterError.{FilterError}
+use Rattle.zed_filter.specs.declared.error.FilterError.TheVariants as filtering
+use Rattle.zed_filter.specs.declared.filter.Filter.{Filter}
+use Rattle.zed_filter.specs.declared.sought.Sought.{Sought}
+use Rattle.zed_filter.specs.Passing.{passes}
+use Rattle.zed_filter.specs.Sought.{sought_of}
 use Rattle.zed_undo.specs.declared.choosing.Choice.{Choice}
 use Rattle.zed_undo.specs.declared.error.ChoiceError.{ChoiceError}
-use Rattle.zed_undo.specs.declared.filter.Filter.{Filter}
-use Rattle.zed_undo.specs.declared.sought.Sought.{Sought}
-use Rattle.zed_undo.specs.Passing.{passes}
-use Rattle.zed_undo.specs.Sought.{sought_of}
+use Rattle.zed_undo.specs.declared.error.ChoiceError.TheVariants.{NoBoard, OutOfRange}
 
 -- ---- by stamps and filters
 
@@ -51,9 +54,14 @@ abbrev pub last_of : Option ℕ → List Bool → List Bool
 last_of None ms = ms
 last_of (Some n) ms = without_first (count_marks ms - n) ms
 
+-- why none are chosen where a filter asks for nothing
+abbrev pub unfiltered : FilterError → ChoiceError
+unfiltered filtering.NoBoard = NoBoard
+unfiltered filtering.OutOfRange = OutOfRange
+
 -- marks at the edits that are chosen, or why none can be
-abbrev pub chosen_with : List Edit → Wanted → Result Sought ChoiceError → Result (List Bool) ChoiceError
-chosen_with es w (Err e) = Err e
+abbrev pub chosen_with : List Edit → Wanted → Result Sought FilterError → Result (List Bool) ChoiceError
+chosen_with es w (Err e) = Err (unfiltered e)
 chosen_with es w (Ok sought) = Ok (last_of w.last (map (is_chosen (replay es) sought w.stamps) es))
 
 abbrev pub chosen_of : List Edit → Wanted → Result (List Bool) ChoiceError

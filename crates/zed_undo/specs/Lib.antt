@@ -1,4 +1,2 @@
 pub mod Choosing
 pub mod Leaving
-pub mod Passing
-pub mod Sought

@@ -7,11 +7,9 @@ ghost use Rattle.zed_undo.specs.declared.error.ChoiceError.TheVariants.{Memory};
 ghost use Rattle.zed_undo.specs.Choosing.{can_be_undone, chosen_of, count_marks, first_missing as first_that_is_missing, has_stamp as has_that_stamp, is_between as is_between_them, is_chosen as is_chosen_of, is_named as is_named_in, last_of, wanted_of, without_first};
 
 use crate::error::ChoiceError;
-use crate::filter::Filter;
-use crate::passing::passes;
-use crate::sought::{Sought, sought_of};
 use std::alloc::{AllocError, Global};
 use zed_document::{Document, View};
+use zed_filter::{Filter, Sought, passes, sought_of};
 use zed_history::spot_of;
 use zed_op::Edit;
 use zed_types::Stamp;
@@ -130,8 +128,8 @@ fn marks_sought(
 }
 
 /// Marks the edits of a document that isn't stale which a choice chooses. Refusals, in order:
-/// NoBoard if there is no board of the filter's number; OutOfRange if its cell is outside the table;
-/// NoBoard if the cell's board isn't there.
+/// NoBoard if there is no board of the filter's number, or none of its name was made; OutOfRange if
+/// its cell is outside the table; NoBoard if the cell's board isn't there.
 pub fn marks_chosen(
     alloc: Global,
     document: &Document,
@@ -145,7 +143,7 @@ pub fn marks_chosen(
 {
     match sought_of(document, &choice.filter) {
         Ok(sought) => marks_sought(alloc, document, &sought, choice),
-        Err(error) => Err(error),
+        Err(error) => Err(ChoiceError::from(error)),
     }
 }
 

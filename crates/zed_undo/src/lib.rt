@@ -3,20 +3,16 @@
 
 mod choosing;
 mod error;
-mod filter;
 mod leaving;
-mod passing;
 mod plan;
 mod plan_error;
 mod planning;
 mod sight;
-mod sought;
 mod texts;
 mod things;
 mod undoing;
 
 pub use choosing::{Choice, first_missing, marked, marks_between, marks_chosen};
 pub use error::ChoiceError;
-pub use filter::Filter;
 pub use leaving::{document_left, first_needed, needs};
 pub use undoing::edits_to;

@@ -2,7 +2,7 @@
 ghost use Rattle.std.specs.Prelude.{◌≡◌, ◌≢◌, ◌⊎◌, ◌++◌, IfErr, IfOk, IfSome, MatchOption, Ok, OnOk, false};
 ghost use Rattle.std.specs.Bool.{OnFalse};
 ghost use Rattle.zed_world.specs.Contents.{Contents};
-ghost use Rattle.zed_world.specs.Writing.{world_text};
+ghost use Rattle.zed_world.specs.Writing.{HasText, world_text};
 ghost use Rattle.zed_edit.specs.Replay.{replay};
 ghost use Rattle.zed_export.specs.declared.error.ExportError.TheVariants.{Memory as LacksMemory};
 ghost use Rattle.zed_export.specs.Limits.{saved};
@@ -20,7 +20,7 @@ use zed_history::next_stamp;
 use zed_op::{Edit, EditError, check, rising_lists_are_sets};
 use zed_take::{TakeError, take};
 use zed_types::{READ_BODY_LIMIT, Stamp};
-use zed_world::{World, write_world};
+use zed_world::{World, WorldError, write_world};
 
 // Whether all edits fit.
 fn check_fit(alloc: Global, edits: &[Edit]) -> Result<(), PlanError>
@@ -182,27 +182,31 @@ fn file_of(alloc: Global, document: &Document) -> Result<Option<Vec<u8>>, AllocE
     }
 }
 
-// The text of a world, if it can be written.
-fn text_of(alloc: Global, world: &World) -> Option<Vec<u8>>
-    ensures { IfSome result (λ text. text.items ≡ world_text world.now) }
+// The text of a world, if it can be written: it is None only if a board is over the limit.
+fn text_of(alloc: Global, world: &World) -> Result<Option<Vec<u8>>, AllocError>
+    ensures { IfOk result (λ o. MatchOption o (HasText 32767 world.now → ⊥)
+        (λ text. text.items ≡ world_text world.now)) }
 {
     match write_world(alloc, world, READ_BODY_LIMIT) {
-        Ok(text) => Some(text),
-        Err(_) => None,
+        Ok(text) => Ok(Some(text)),
+        Err(error) => match error {
+            WorldError::Memory => Err(AllocError),
+            _ => Ok(None),
+        },
     }
 }
 
 // Whether a file has the text of a world: false only where it hasn't.
-fn may_be(alloc: Global, file: &[u8], world: &World) -> bool
-    ensures { OnFalse result (file.now ≢ world_text world.now) }
+fn may_be(alloc: Global, file: &[u8], world: &World) -> Result<bool, AllocError>
+    ensures { IfOk result (λ b. OnFalse b (file.now ≢ world_text world.now)) }
 {
-    let Some(text) = text_of(alloc, world) else {
-        return true;
+    let Some(text) = text_of(alloc, world)? else {
+        return Ok(true);
     };
     if file == text.as_slice() {
-        return true;
+        return Ok(true);
     }
-    false
+    Ok(false)
 }
 
 // Whether a document shows a world: false only where it doesn't.
@@ -212,7 +216,7 @@ fn may_show(alloc: Global, document: &Document, world: &World) -> Result<bool, A
     ensures { IfOk result (λ b. OnFalse b (Shows document.now.edits world.now → ⊥)) }
 {
     match file_of(alloc, document)? {
-        Some(file) => Ok(may_be(alloc, &file, world)),
+        Some(file) => may_be(alloc, &file, world),
         None => Ok(false),
     }
 }

@@ -1,6 +1,6 @@
 use Rattle.std.proofs.Common.{◌≡◌, drop, filter, ◌++◌}
 use Rattle.zed_log.specs.Laws.{log_at}
-use Rattle.cmd_log.specs.Edits.{passes}
+use Rattle.zed_filter.specs.Passing.{passes}
 use Rattle.cmd_log.specs.Logged.{is_held}
 use Rattle.cmd_log.proofs.logging.lines_of.Given as goal
 

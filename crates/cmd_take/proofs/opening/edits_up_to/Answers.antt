@@ -8,5 +8,5 @@ loop-edit-preserved c =
     let more = take_more c.args.edits.now c.loop-edit.edit-index c.edit-item.result c.loop-edit-test.true
     ∙ ap (λ e. take c.loop-edit.edit-index c.args.edits.now ++ e ∷ []) (sym c.edit-item.is) in
     record {
-      copied = one_looked c.args.time (take c.loop-edit.edit-index c.args.edits.now) _ c.edit-item.result c.loop-edit.copies.items _ more c.loop-edit.invariant.copied c.in_ok-push_up_to.ensures;
+      copied = one_looked c.args.last (take c.loop-edit.edit-index c.args.edits.now) _ c.edit-item.result c.loop-edit.copies.items _ more c.loop-edit.invariant.copied c.in_ok-push_up_to.ensures;
     }

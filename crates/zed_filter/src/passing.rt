@@ -4,7 +4,7 @@ ghost use Rattle.std.specs.List.{list_any};
 ghost use Rattle.zed_types.specs.Names.{same_board};
 ghost use Rattle.zed_types.specs.Table.{is_inside as is_in_rectangle};
 ghost use Rattle.zed_view.specs.View.{board_at};
-ghost use Rattle.zed_undo.specs.Passing.{is_edit_of as is_edit_of_board, is_edit_of_cell as is_of_cell, is_of_board as is_of_that_board, is_of_stat as is_of_that_stat, is_on as is_on_board, made_board as made_that_board, passes as passes_all, passes_board as passes_that_board, passes_cell as passes_that_cell, passes_replica as passes_that_replica, passes_since as passes_that_time, passes_until as passes_that_end, sets_cell as sets_that_cell, worked_on as thing_worked_on};
+ghost use Rattle.zed_filter.specs.Passing.{is_edit_of as is_edit_of_board, is_edit_of_cell as is_of_cell, is_of_board as is_of_that_board, is_of_stat as is_of_that_stat, is_on as is_on_board, made_board as made_that_board, passes as passes_all, passes_board as passes_that_board, passes_cell as passes_that_cell, passes_replica as passes_that_replica, passes_since as passes_that_start, passes_until as passes_that_end, sets_cell as sets_that_cell, worked_on as thing_worked_on};
 
 use crate::sought::{Cell, Sought};
 use zed_document::View;
@@ -165,26 +165,26 @@ fn passes_replica(replica: Option<u16>, edit: &Edit) -> bool
     }
 }
 
-fn passes_since(since: Option<u64>, edit: &Edit) -> bool
-    ensures { result ≡ passes_that_time since edit.now }
+fn passes_since(since: Option<Stamp>, edit: &Edit) -> bool
+    ensures { result ≡ passes_that_start since edit.now }
 {
     match since {
-        Some(since) => since <= edit.stamp.time,
+        Some(since) => !edit.stamp.is_before(since),
         None => true,
     }
 }
 
-fn passes_until(until: Option<u64>, edit: &Edit) -> bool
+fn passes_until(until: Option<Stamp>, edit: &Edit) -> bool
     ensures { result ≡ passes_that_end until edit.now }
 {
     match until {
-        Some(until) => edit.stamp.time <= until,
+        Some(until) => !until.is_before(edit.stamp),
         None => true,
     }
 }
 
-/// Whether an edit passes all filters.
-pub(crate) fn passes(view: &View, sought: &Sought, edit: &Edit) -> bool
+/// Whether an edit is all that is asked for, in a document that shows this view.
+pub fn passes(view: &View, sought: &Sought, edit: &Edit) -> bool
     ensures { result ≡ passes_all view.now sought.now edit.now }
 {
     passes_replica(sought.replica, edit)

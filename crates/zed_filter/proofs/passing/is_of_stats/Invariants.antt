@@ -1,8 +1,8 @@
 use Rattle.std.proofs.Common.{◌≡◌, drop}
 use Rattle.std.specs.List.{list_any}
 use Rattle.zed_view.specs.View.{board_at}
-use Rattle.zed_undo.specs.Passing.{is_of_stat}
-use Rattle.zed_undo.proofs.passing.is_of_stats.Given as goal
+use Rattle.zed_filter.specs.Passing.{is_of_stat}
+use Rattle.zed_filter.proofs.passing.is_of_stats.Given as goal
 
 -- the stat is sought among the rest
 abbrev pub invariant-loop-j : goal.invariant-loop-j

@@ -1,8 +1,8 @@
 use Rattle.std.proofs.Common.{◌≡◌, ◌&&◌, drop}
 use Rattle.std.specs.List.{list_any}
 use Rattle.zed_types.specs.Names.{same_board}
-use Rattle.zed_undo.specs.Passing.{is_of_board}
-use Rattle.zed_undo.proofs.passing.is_on.Given as goal
+use Rattle.zed_filter.specs.Passing.{is_of_board}
+use Rattle.zed_filter.proofs.passing.is_on.Given as goal
 
 -- the board is sought among the rest
 abbrev pub invariant-loop-i : goal.invariant-loop-i

@@ -1,5 +1,5 @@
--- Which edits are of a board, and which of a cell.
-use Rattle.std.specs.Prelude.{ℕ, ◌==◌, nat_le, Bool, true, false, ◌&&◌, ◌||◌, Option, Some, None}
+-- Which edits pass filters.
+use Rattle.std.specs.Prelude.{ℕ, ◌==◌, Bool, true, false, not, ◌&&◌, ◌||◌, Option, Some, None}
 use Rattle.std.specs.List.{list_any}
 use Rattle.zed_types.specs.declared.names.BoardId.{BoardId}
 use Rattle.zed_types.specs.declared.names.StatId.{StatId}
@@ -7,7 +7,7 @@ use Rattle.zed_types.specs.declared.names.TextId.{TextId}
 use Rattle.zed_types.specs.declared.stamp.Stamp.{Stamp}
 use Rattle.zed_types.specs.declared.tile.Place.{Place}
 use Rattle.zed_types.specs.Names.{same_board, same_stat, text_of}
-use Rattle.zed_types.specs.Stamp.{same_stamp}
+use Rattle.zed_types.specs.Stamp.{before, same_stamp}
 use Rattle.zed_types.specs.Table.{is_inside}
 use Rattle.zed_op.specs.declared.op.Edit.{Edit}
 use Rattle.zed_op.specs.declared.op.Op.{Op}
@@ -17,8 +17,8 @@ use Rattle.zed_op.specs.declared.thing.Thing.TheVariants as thing
 use Rattle.zed_edit.specs.declared.plain.Board.{Board}
 use Rattle.zed_edit.specs.declared.plain.Plain.{Plain}
 use Rattle.zed_export.specs.World.{is_of}
-use Rattle.cmd_log.specs.declared.sought.Sought.{Sought}
-use Rattle.cmd_log.specs.declared.sought.Cell.{Cell}
+use Rattle.zed_filter.specs.declared.sought.Sought.{Sought}
+use Rattle.zed_filter.specs.declared.sought.Cell.{Cell}
 
 -- the board, stat or text that an edit with this stamp works on
 abbrev pub worked_on : Stamp → Op → Option Thing
@@ -83,11 +83,17 @@ abbrev pub passes_replica : Option ℕ → Edit → Bool
 passes_replica None e = true
 passes_replica (Some r) e = e.stamp.replica == r
 
--- an edit of this time or later, where one is asked for
-abbrev pub passes_since : Option ℕ → Edit → Bool
+-- an edit of this stamp or a later one, where one is asked for
+abbrev pub passes_since : Option Stamp → Edit → Bool
 passes_since None e = true
-passes_since (Some t) e = nat_le t e.stamp.time
+passes_since (Some s) e = not (before e.stamp s)
+
+-- an edit of this stamp or an earlier one, where one is asked for
+abbrev pub passes_until : Option Stamp → Edit → Bool
+passes_until None e = true
+passes_until (Some s) e = not (before s e.stamp)
 
 -- an edit that is all that is asked for
 abbrev pub passes : Plain → Sought → Edit → Bool
-passes p s e = passes_replica s.replica e && passes_since s.since e && passes_board p s.board e && passes_cell s.cell e
+passes p s e =
+    passes_replica s.replica e && passes_since s.since e && passes_until s.until e && passes_board p s.board e && passes_cell s.cell e
