@@ -4,6 +4,7 @@ pub mod Colours
 pub mod Tiles
 pub mod Drawing
 pub mod Plain
+pub mod Ruled
 pub mod Coloured
 pub mod Svg
 pub mod Form

@@ -3,7 +3,7 @@ use Rattle.std.specs.Prelude.{ℕ, zero, suc, ◌+◌, ◌*◌, Bool, ◌==◌, 
 use Rattle.zed_look.specs.declared.look.Spot.{Spot}
 use Rattle.zed_look.specs.Colours.{ink, paper, rgb}
 use Rattle.zed_look.specs.Glyphs.{glyph}
-use Rattle.zed_look.specs.Parts.{number}
+use Rattle.zed_look.specs.Parts.{ended, number}
 
 -- the colour behind a place: a solid wall (219) fills it with its own
 abbrev pub back : Spot → ℕ
@@ -25,10 +25,6 @@ escaped c = if c == 38 then codes "&amp;" else if c == 60 then codes "&lt;" else
 abbrev pub copies : ℕ → List ℕ → List ℕ
 copies zero text = []
 copies (suc n) text = text ++ copies n text
-
--- a text with a line feed (10) at its end
-unfoldable pub ended : List ℕ → List ℕ
-ended text = text ++ 10 ∷ []
 
 -- an attribute of an element of the file: its name, and a number between quotes
 unfoldable pub attribute : List ℕ → ℕ → List ℕ

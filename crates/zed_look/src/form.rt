@@ -5,6 +5,7 @@ ghost use Rattle.zed_look.specs.Form.{text_in};
 use crate::coloured::put_coloured;
 use crate::look::Picture;
 use crate::plain::put_plain;
+use crate::ruled::put_ruled;
 use crate::svg::put_svg;
 use std::alloc::{AllocError, Global};
 
@@ -15,6 +16,8 @@ pub enum Form {
     Coloured,
     /// The same lines without colour.
     Plain,
+    /// The lines without colour, with the numbers of columns and rows at the edges.
+    Ruled,
     /// An SVG file.
     Svg,
 }
@@ -27,6 +30,7 @@ pub fn text_in(alloc: Global, form: Form, picture: &Picture) -> Result<Vec<u8>, 
     match form {
         Form::Coloured => put_coloured(picture, &mut text)?,
         Form::Plain => put_plain(picture, &mut text)?,
+        Form::Ruled => put_ruled(picture, &mut text)?,
         Form::Svg => put_svg(picture, &mut text)?,
     }
     Ok(text)

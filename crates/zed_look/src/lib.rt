@@ -10,6 +10,7 @@ mod laws;
 mod look;
 mod parts;
 mod plain;
+mod ruled;
 mod svg;
 mod tiles;
 
@@ -20,4 +21,5 @@ pub use glyphs::put_glyphs;
 pub use laws::{codes_only_colour, lines_are_rows, playtest_looks_like_its_board};
 pub use look::{Picture, Pose, Spot};
 pub use plain::put_plain;
+pub use ruled::put_ruled;
 pub use svg::put_svg;

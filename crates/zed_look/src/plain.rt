@@ -18,7 +18,7 @@ fn put_characters(out: &mut Vec<u8>, row: &[Spot]) -> Result<(), AllocError>
     Ok(())
 }
 
-fn put_row(out: &mut Vec<u8>, row: &[Spot]) -> Result<(), AllocError>
+pub(crate) fn put_row(out: &mut Vec<u8>, row: &[Spot]) -> Result<(), AllocError>
     ensures { OnOk result (out.new.items ≡ out.old.items ++ plain_row row.now) }
 {
     put_characters(out, row)?;

@@ -1,11 +1,12 @@
 //! Pictures as SVG.
 ghost use Rattle.std.specs.Prelude.{◌≡◌, ◌+◌, ◌++◌, ◌<◌, ◌≤◌, OnErr, OnOk, length};
-ghost use Rattle.zed_look.specs.Svg.{attribute, back, content, copies, ended, escaped, fill, is_blank, is_same, rectangle, span, spans_from, start, svg_row, svg_rows, svg_text, words};
+ghost use Rattle.zed_look.specs.Parts.{ended};
+ghost use Rattle.zed_look.specs.Svg.{attribute, back, content, copies, escaped, fill, is_blank, is_same, rectangle, span, spans_from, start, svg_row, svg_rows, svg_text, words};
 
 use crate::colours::{ink, paper, rgb};
 use crate::glyphs::put_glyph;
 use crate::look::{Picture, Spot};
-use crate::parts::{put_number, put_text};
+use crate::parts::{put_ended, put_number, put_text};
 use std::alloc::AllocError;
 use zed_types::{COLUMNS, ROWS};
 
@@ -52,15 +53,6 @@ fn put_copies(out: &mut Vec<u8>, count: u32, character: u8) -> Result<(), AllocE
         put_escaped(out, character)?;
     }
     Ok(())
-}
-
-/// Appends a text and a line feed.
-#[tactic(auto, unfolding(crate::specs::Svg::ended))]
-fn put_ended(out: &mut Vec<u8>, text: &str) -> Result<(), AllocError>
-    ensures { OnOk result (out.new.items ≡ out.old.items ++ ended text.now) }
-{
-    put_text(out, text)?;
-    put_text(out, "\n")
 }
 
 #[tactic(auto, unfolding(crate::specs::Svg::attribute))]

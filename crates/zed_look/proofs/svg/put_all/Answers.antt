@@ -1,6 +1,7 @@
 use Rattle.std.proofs.Common.{codes}
 use Rattle.std.proofs.lemmas.Result.{IfOk-weaker}
-use Rattle.zed_look.specs.Svg.{ended, svg_rows, svg_text}
+use Rattle.zed_look.specs.Parts.{ended}
+use Rattle.zed_look.specs.Svg.{svg_rows, svg_text}
 use Rattle.zed_look.proofs.Adding.{adds}
 use Rattle.zed_look.proofs.svg.put_all.Goals as goal
 
