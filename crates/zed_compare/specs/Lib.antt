@@ -1,0 +1,4 @@
+pub mod Findings
+pub mod Reading
+pub mod Registers
+pub mod Silence

@@ -1,0 +1,4 @@
+pub mod Sides
+pub mod Tallies
+pub mod Targets
+pub mod Things
