@@ -1,4 +1,4 @@
-"""Draws boards of world files as ZZT 3.2 shows them, in the three forms of `zztool show`. It stands apart from the crates: on zzt.py, which
+"""Draws boards of world files as ZZT 3.2 shows them, in the four forms of `zztool show`. It stands apart from the crates: on zzt.py, which
 reads world files, on Python's codec of code page 437, and on knowledge of ZZT's table of elements.
 
 Usage: pictures.py FOLDER                         makes the data of rows/looks in FOLDER: worlds, and pictures of their boards
@@ -74,6 +74,14 @@ def plain(rows):
     return "".join("".join(it for it, _ in row) + "\n" for row in rows)
 
 
+def ruled(rows):
+    """The plain lines behind their numbers, below the tens and the last digits of the columns."""
+    tens = "".join(str(x // 10) if x % 10 == 0 else " " for x in range(1, 61))
+    digits = "".join(str(x % 10) for x in range(1, 61))
+    lines = [f"{number:2} {line}" for number, line in enumerate(plain(rows).splitlines(), 1)]
+    return "\n".join([f"   {tens}", f"   {digits}", *lines, ""])
+
+
 HUES = [0, 4, 2, 6, 1, 5, 3, 7]
 
 
@@ -118,6 +126,8 @@ def svg(rows):
 
 
 FORMS = (("txt", ["--plain"], plain), ("sgr", [], coloured), ("svg", ["--svg"], svg))
+# its data needs no file of its own
+RULED = ("ruled", ["--ruler"], ruled)
 
 
 def looks():
@@ -213,7 +223,7 @@ def compare(zzted, zztool, room, worlds):
         edits = f"{room}/{number}.zed"
         subprocess.run([zzted, "new", edits, str(number + 1), "--from", at], stdin=subprocess.DEVNULL, stdout=subprocess.DEVNULL, check=True)
         for n, board in enumerate(zzt.normal(zzt.read(open(at, "rb").read())).boards):
-            for end, words, draw in FORMS:
+            for end, words, draw in (*FORMS, RULED):
                 shown = subprocess.run([zztool, "show", *words, str(n), edits], stdin=subprocess.DEVNULL, capture_output=True)
                 if shown.returncode == 0 and shown.stdout == draw(rows_of(board)).encode():
                     passed += 1

@@ -81,7 +81,7 @@ def compare(row, words, wanted):
     printed = printed.decode("latin-1")
     name = wanted[-1].partition("refused: ")[2] if wanted else ""
     if name and is_outside(words):
-        COUNTS.is_so(row, (status, printed, "are no cell" in complained), (2, "", True))
+        COUNTS.is_so(row, (status, printed, "X is 1 to 60 and Y is 1 to 25" in complained), (2, "", True))
     elif name:
         COUNTS.is_so(row, (status, printed, complained), (1, "", f"zztool: {name}"))
     elif words[0] == "lint":

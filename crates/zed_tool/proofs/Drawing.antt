@@ -1,4 +1,5 @@
 -- Commands that draw tell of a file that can't be had only if they were given one.
+use Rattle.zed_types.specs.declared.stamp.Stamp.{Stamp}
 use Rattle.std.proofs.Common.{◌≡◌, ◌∙◌, ℕ, Bool, true, false, List, [], ◌∷◌, Option, Some, None, Result, Ok, Err, ap, refl, subst, sym, inl, inr}
 use Rattle.std.specs.Prelude.{⊤, ◌⊎◌, MatchBool, if◌then◌else◌, length}
 use Rattle.std.specs.Str.{bytes_eq}
@@ -218,7 +219,7 @@ replaces_lacks Careful f shown file world bytes =
     reads_lacks TriedWorld (FoundReads f shown file world bytes) tried_never (found_lacks f shown file world bytes)
 replaces_lacks Forced f shown file world bytes = ends_lacks (IsWritten world f bytes) (is_ok_never _)
 
-pub open_lacks : (until : Option ℕ) (forcing : Forcing) (file world : List ℕ) → TellsLacks (OpenComes until forcing file world)
+pub open_lacks : (until : Option Stamp) (forcing : Forcing) (file world : List ℕ) → TellsLacks (OpenComes until forcing file world)
 open_lacks until forcing file world =
     or_lacks (Reads (OpensAs None) (Shown until forcing file world))
     (reads_lacks (OpensAs None) (Shown until forcing file world) (opened_never None)

@@ -3,15 +3,10 @@ use Rattle.std.proofs.Common.{◌≡◌, ◌∙◌, ℕ, Bool, true, false, List
 use Rattle.std.specs.Prelude.{◌⊎◌, if◌then◌else◌, slice_get}
 use Rattle.zed_types.specs.declared.stamp.Stamp.{Stamp}
 use Rattle.zed_types.specs.Limits.{largest_body}
-use Rattle.zed_types.specs.declared.names.BoardId.{BoardId}
-use Rattle.zed_types.specs.declared.tile.Place.{Place}
-use Rattle.zed_types.specs.Table.{has_tile}
 use Rattle.zed_op.specs.declared.op.Edit.{Edit}
 use Rattle.zed_world.specs.Contents.{Contents}
 use Rattle.zed_world.specs.declared.board.BoardData.{BoardData}
 use Rattle.zed_world.specs.declared.stat.StatData.{StatData}
-use Rattle.zed_edit.specs.declared.plain.Plain.{Plain}
-use Rattle.zed_edit.specs.Numbers.{board_numbered}
 use Rattle.zed_edit.specs.Replay.{replay}
 use Rattle.zed_editfile.specs.declared.error.EditFileError.{EditFileError}
 use Rattle.zed_export.specs.declared.error.ExportError.{ExportError}
@@ -38,13 +33,18 @@ use Rattle.zed_files.specs.Gathers.{Gathers, GathersTo, first_stop, set_or}
 use Rattle.zed_files.specs.Opened.{FileEdits}
 use Rattle.zed_files.specs.Rewrites.{IsRewritten, Opens, OpensAt, OpensFile, RewritesCome, opened_at, rewritten}
 use Rattle.zed_files.specs.Tells.{FilesCome, printed_as, told_of}
-use Rattle.cmd_log.specs.declared.filter.Filter.{Filter}
+use Rattle.zed_filter.specs.declared.error.FilterError.{FilterError}
+use Rattle.zed_filter.specs.declared.error.FilterError.TheVariants as filtering
+use Rattle.zed_filter.specs.declared.filter.Filter.{Filter}
+use Rattle.zed_filter.specs.declared.sought.Sought.{Sought}
+use Rattle.zed_filter.specs.Sought.{sought_of}
 use Rattle.cmd_log.specs.declared.listing.Listing.{Listing}
 use Rattle.cmd_log.specs.declared.listing.Listing.TheVariants.{Boards, Stats, Program}
 use Rattle.cmd_log.specs.declared.linting.Strictness.{Strictness}
 use Rattle.cmd_log.specs.Linted.{lint_of, lints, printed_with}
 use Rattle.cmd_log.specs.Listed.{list_of, listed, lists, program_of, program_on, ranks_of, stats_of, unless_over}
-use Rattle.cmd_log.specs.Logged.{board_or_none, board_sought, cell_on, cell_sought, log_of, log_with, logs, named_board, place_of, sought_of, sought_with, there}
+use Rattle.cmd_log.specs.Logged.{filter_stop, log_of, log_with, logs}
+use Rattle.cmd_page.specs.Told.{page_in, pages, told_of as told_of_page}
 use Rattle.cmd_program.specs.Every.{every_of, every_text, prints_every}
 use Rattle.cmd_program.specs.Printed.{printed, prints_program, text_of_stat, text_on}
 use Rattle.cmd_show.specs.Pictured.{board_in, shown_of, shows, world_in}
@@ -76,54 +76,16 @@ printed_not (Err e) never is = never (ap (λ e. Err e) (same_stop e File is))
 
 -- ---- `log`
 
-board_not : (o : Option BoardId) → NotFile (board_or_none o)
-board_not None is = cc
-board_not (Some b) is = cc
+filtered_not : {X : Type 0} (e : FilterError) → NotFile (stopped {X = X} (filter_stop e))
+filtered_not filtering.NoBoard is = cc
+filtered_not filtering.OutOfRange is = cc
 
-there_not : {X : Type 0} (m : Result X (Stop Reason)) → NotFile m → NotFile (there m)
-there_not (Ok x) never is = cc
-there_not (Err e) never is = never (ap (λ e. Err e) (same_stop e File is))
-
-board_sought_not : (p : Plain) (n : Option ℕ) → NotFile (board_sought p n)
-board_sought_not p None is = cc
-board_sought_not p (Some n) is = there_not (named_board p n) (board_not (board_numbered p n)) is
-
-place_not : (x y : ℕ) → NotFile (place_of x y)
-place_not x y = go (has_tile x y)
-  where
-    place : Place
-    place = record { x = x; y = y }
-
-    go : (b : Bool) → NotFile {X = Place} {E = Reason} (if b then Ok place else Err (Refused OutOfRange))
-    go true is = cc
-    go false is = cc
-
-cell_on_not : (place : Result Place (Stop Reason)) (board : Result BoardId (Stop Reason)) → NotFile place → NotFile board → NotFile (cell_on place board)
-cell_on_not (Err e) board first second is = first (ap (λ e. Err e) (same_stop e File is))
-cell_on_not (Ok place) (Err e) first second is = second (ap (λ e. Err e) (same_stop e File is))
-cell_on_not (Ok place) (Ok board) first second is = cc
-
-cell_sought_not : (p : Plain) (c : Option (ℕ × ℕ × ℕ)) → NotFile (cell_sought p c)
-cell_sought_not p None is = cc
-cell_sought_not p (Some (n, x, y)) is =
-    there_not (cell_on (place_of x y) (named_board p n)) (cell_on_not (place_of x y) (named_board p n) (place_not x y) (board_not (board_numbered p n))) is
-
-sought_not : (replica since : Option ℕ) (board : Result (Option BoardId) (Stop Reason)) (cell : Result _ (Stop Reason)) → NotFile board
-    → NotFile cell → NotFile (sought_with replica since board cell)
-sought_not replica since (Err e) cell first second is = first (ap (λ e. Err e) (same_stop e File is))
-sought_not replica since (Ok board) (Err e) first second is = second (ap (λ e. Err e) (same_stop e File is))
-sought_not replica since (Ok board) (Ok cell) first second is = cc
-
-log_not : (l : Length) (es : List Edit) (sought : Result _ (Stop Reason)) → NotFile sought → NotFile (log_with l es sought)
-log_not l es (Err e) never is = never (ap (λ e. Err e) (same_stop e File is))
-log_not l es (Ok sought) never is = cc
+log_not : (l : Length) (es : List Edit) (sought : Result Sought FilterError) → NotFile (log_with l es sought)
+log_not l es (Err e) is = filtered_not e is
+log_not l es (Ok sought) is = cc
 
 pub logs_not : (l : Length) (f : Filter) (es : List Edit) → NotFile (logs l f es)
-logs_not l f es =
-    let p = replay es in
-    printed_not (log_of l f es)
-    (log_not l es (sought_of p f)
-    (sought_not f.replica f.since (board_sought p f.board) (cell_sought p f.cell) (board_sought_not p f.board) (cell_sought_not p f.cell)))
+logs_not l f es = printed_not (log_of l f es) (log_not l es (sought_of (replay es) f))
 
 -- ---- `list`
 
@@ -180,6 +142,15 @@ world_in_not form n (Err e) is = exported_not e is
 
 pub shows_not : (form : Form) (n : ℕ) (es : List Edit) → NotFile (shows form n es)
 shows_not form n es = printed_not (shown_of form n es) (world_in_not form n (exported largest_body (replay es)))
+
+-- ---- `page`
+
+page_in_not : (m : Result Contents ExportError) → NotFile (page_in m)
+page_in_not (Ok world) is = cc
+page_in_not (Err e) is = exported_not e is
+
+pub pages_not : (es : List Edit) → NotFile (pages es)
+pages_not es = printed_not (told_of_page es) (page_in_not (exported largest_body (replay es)))
 
 -- ---- `program`, where it prints one
 

@@ -1,4 +1,5 @@
--- The status of a command that was carried out: 0, or 1 where `lint` finds something, or `undo` undoes nothing and says why.
+-- The status of a command that was carried out: 0, or 1 where `lint` or `compare` finds something, or `undo` undoes nothing and says why.
+use Rattle.zed_types.specs.declared.stamp.Stamp.{Stamp}
 use Rattle.std.proofs.Common.{◌≡◌, ◌∙◌, ℕ, Bool, true, false, nat_lt, List, [], ◌∷◌, Option, Some, None, Result, Ok, Err, ap, refl, subst, sym, inl, inr}
 use Rattle.std.specs.Prelude.{⊤, ◌⊎◌, MatchBool, if◌then◌else◌}
 use Rattle.std.specs.Str.{bytes_eq}
@@ -19,6 +20,8 @@ use Rattle.zed_files.specs.declared.refusal.Refusal.{Refusal}
 use Rattle.zed_files.specs.Opened.{FileEdits}
 use Rattle.zed_files.specs.Rewrites.{IsRewritten, rewritten}
 use Rattle.zed_files.specs.Tells.{FilesCome, printed_as, told_of}
+use Rattle.cmd_compare.proofs.Ends.{compare_status}
+use Rattle.cmd_page.specs.Told.{pages, told_of as told_of_page}
 use Rattle.cmd_undo.proofs.Ends.{undo_status}
 use Rattle.cmd_log.specs.declared.linting.Strictness.{Strictness}
 use Rattle.cmd_log.specs.declared.linting.Strictness.TheVariants.{Lenient, Strict}
@@ -43,10 +46,10 @@ use Rattle.cmd_take.specs.Steps.{Authored, Does, Ends, GoesOn, OrLacks, Reads, S
 use Rattle.cmd_take.specs.Stops.{DrawingStop}
 use Rattle.cmd_take.specs.Taking.{BaseTakes, Draws, FileTakes, Given, IsJoined, IsTaken, TakeComes, Takes, WorldTakes, drawn, given}
 use Rattle.zed_set_words.specs.Rows.{wish_of}
-use Rattle.zed_tool_words.specs.Commands.{Command, Open, Take, Log, Lists, Show, Play, Lint, Undo, UndoPull, Set, ProgramOf, Programs, SetProgram}
+use Rattle.zed_tool_words.specs.Commands.{Command, Open, Take, Log, Lists, Show, Page, Play, Lint, Compare, Undo, UndoPull, Set, ProgramOf, Programs, SetProgram}
 use Rattle.zed_tool.specs.Answers.{Answer, handed, told_as}
-use Rattle.zed_tool.specs.Commands.{AsksCourse, chosen_as, course_of, filter_of, forcing_of, form_of, length_of, listing_of, manner_of, pulled_as, strictness_of}
-use Rattle.zed_tool.specs.Driving.{AsksDriven, Driving, to_open, to_set, to_set_program, to_take, to_tell, to_undo}
+use Rattle.zed_tool.specs.Commands.{AsksCourse, chosen_as, compare_strictness_of, course_of, filter_of, forcing_of, form_of, length_of, listing_of, manner_of, pulled_as, strictness_of}
+use Rattle.zed_tool.specs.Driving.{AsksDriven, Driving, to_compare, to_open, to_set, to_set_program, to_take, to_tell, to_undo}
 
 abbrev IsStatus : ℕ → Type 0
 IsStatus n = (n ≡ 0) ⊎ (n ≡ 1)
@@ -210,7 +213,7 @@ replaces_zero Careful f shown file world bytes files x is =
     reads_zero TriedWorld (FoundReads f shown file world bytes) (found_zero f shown file world bytes) files x is
 replaces_zero Forced f shown file world bytes files x is = zero_as x _ refl is.1
 
-open_zero : (until : Option ℕ) (forcing : Forcing) (file world : List ℕ) → Zero (OpenComes until forcing file world)
+open_zero : (until : Option Stamp) (forcing : Forcing) (file world : List ℕ) → Zero (OpenComes until forcing file world)
 open_zero until forcing file world =
     or_zero (Reads (OpensAs None) (Shown until forcing file world))
     (reads_zero (OpensAs None) (Shown until forcing file world)
@@ -266,17 +269,21 @@ command_status called (Open until forcing file world) status old new asks =
     zero_status called (to_open until (forcing_of forcing) file world) status old new (open_zero until (forcing_of forcing) file world) asks
 command_status called (Take base forcing file replica world) status old new asks =
     zero_status called (to_take base (forcing_of forcing) file replica world) status old new (take_zero base (forcing_of forcing) file replica world) asks
-command_status called (Log length board cell replica since files) status old new asks =
+command_status called (Log length filter files) status old new asks =
     let l = length_of length in
-    let f = filter_of board cell replica since in
+    let f = filter_of filter in
     tell_status called (logs l f) files status old new (λ es x same. printed_status (log_of l f es) x same) asks
 command_status called (Lists listing files) status old new asks =
     tell_status called (lists (listing_of listing)) files status old new (λ es x same. printed_status (list_of (listing_of listing) es) x same) asks
 command_status called (Show form board files) status old new asks =
     tell_status called (shows (form_of form) board) files status old new (λ es x same. printed_status (shown_of (form_of form) board es) x same) asks
+command_status called (Page files) status old new asks =
+    tell_status called pages files status old new (λ es x same. printed_status (told_of_page es) x same) asks
 command_status called (Play going rows words keys board files) status old new asks = played_status asks.0 status asks.2
 command_status called (Lint strictness files) status old new asks =
     tell_status called (lints (strictness_of strictness)) files status old new (λ es x same. linted_status (strictness_of strictness) (lint_of es) x same) asks
+command_status called (Compare strictness mine theirs) status old new asks =
+    driven_status called (to_compare (compare_strictness_of strictness) mine theirs) status old new (compare_status (compare_strictness_of strictness)) asks
 command_status called (Undo trial others file replica chosen) status old new asks =
     let m = manner_of trial others in
     driven_status called (to_undo file replica m (chosen_as chosen)) status old new (undo_status file m replica (chosen_as chosen)) asks

@@ -1,10 +1,13 @@
 -- Commands that a driver carries out: what each asks for and comes to, and how it is told where it is not carried out.
+use Rattle.zed_types.specs.declared.stamp.Stamp.{Stamp}
 use Rattle.cmd_set.specs.declared.reason.SetReason.{SetReason}
 use Rattle.cmd_set.specs.Setting.{SetComes, SetWants}
 use Rattle.cmd_take.specs.declared.opening.Forcing.{Forcing}
 use Rattle.cmd_take.specs.declared.reason.DrawingReason.{DrawingReason}
 use Rattle.cmd_take.specs.Opening.{OpenComes, OpenWants}
 use Rattle.cmd_take.specs.Taking.{TakeComes, TakeWants}
+use Rattle.cmd_compare.specs.Compares.{CompareComes, CompareWants}
+use Rattle.cmd_compare.specs.declared.comparing.Strictness.{Strictness}
 use Rattle.cmd_undo.specs.declared.manner.Manner.{Manner}
 use Rattle.cmd_undo.specs.Undoing.{UndoComes, UndoWants, Wish}
 use Rattle.cmd_program.specs.Setting.{ProgramComes, ProgramWants}
@@ -36,7 +39,7 @@ abbrev pub to_tell : (List Edit → Result Effect (Stop Reason)) → List (List 
 to_tell tells files = record { refusal = Reason; wants = FilesWant files; comes = FilesCome tells files; failure = shared_failure }
 
 -- `open`
-abbrev pub to_open : Option ℕ → Forcing → List ℕ → List ℕ → Driving
+abbrev pub to_open : Option Stamp → Forcing → List ℕ → List ℕ → Driving
 to_open until forcing file world =
     record { refusal = DrawingReason; wants = OpenWants until forcing file world; comes = OpenComes until forcing file world; failure = drawing_failure file }
 
@@ -44,6 +47,11 @@ to_open until forcing file world =
 abbrev pub to_take : Option (List ℕ) → Forcing → List ℕ → ℕ → List ℕ → Driving
 to_take base forcing file replica world =
     record { refusal = DrawingReason; wants = TakeWants base file replica world; comes = TakeComes base forcing file replica world; failure = drawing_failure file }
+
+-- `compare`
+abbrev pub to_compare : Strictness → List ℕ → List ℕ → Driving
+to_compare strictness mine theirs =
+    record { refusal = Reason; wants = CompareWants mine theirs; comes = CompareComes strictness; failure = shared_failure }
 
 -- `undo`
 abbrev pub to_undo : List ℕ → ℕ → Manner → Wish → Driving

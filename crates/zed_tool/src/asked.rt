@@ -1,12 +1,14 @@
 //! What words ask for, as the commands take it.
 ghost use Rattle.std.specs.Prelude.{◌≡◌};
-ghost use Rattle.zed_tool.specs.Commands.{forcing_of as forcing_for, form_of as form_for, going_of as going_for, length_of as length_for, listing_of as listing_for, others_of as others_for, size_of as size_for, strictness_of as strictness_for, trial_of as trial_for};
+ghost use Rattle.zed_tool.specs.Commands.{choice_of as choice_for, compare_strictness_of as compare_strictness_for, filter_of as filter_for, forcing_of as forcing_for, form_of as form_for, going_of as going_for, length_of as length_for, listing_of as listing_for, others_of as others_for, size_of as size_for, strictness_of as strictness_for, trial_of as trial_for};
 
 use cmd_log::{Length, Listing, Strictness};
 use cmd_play::Going;
 use cmd_take::Forcing;
 use cmd_undo::{Others, Trial};
+use zed_filter::{BoardChoice, Filter};
 use zed_look::Form;
+use zed_set_words::BoardPlace;
 use zed_terminal::Size;
 
 /// What is done where work would be lost.
@@ -40,6 +42,30 @@ pub(crate) fn length_of(length: zed_tool_words::Length) -> Length
     }
 }
 
+// The board that is meant, if one is.
+fn choice_of(board: Option<BoardPlace>) -> Option<BoardChoice>
+    ensures { result ≡ choice_for board }
+{
+    match board {
+        Some(BoardPlace::Numbered(number)) => Some(BoardChoice::Number(number)),
+        Some(BoardPlace::Named(board)) => Some(BoardChoice::Name(board)),
+        None => None,
+    }
+}
+
+/// Which edits are meant.
+pub(crate) fn filter_of(filter: zed_tool_words::Filter) -> Filter
+    ensures { result ≡ filter_for filter }
+{
+    Filter {
+        board: choice_of(filter.board),
+        cell: filter.cell,
+        replica: filter.replica,
+        since: filter.since,
+        until: filter.until,
+    }
+}
+
 /// How large a terminal is, as far as it is told before it tells itself.
 pub(crate) fn size_of(rows: Option<u16>) -> Size
     ensures { result ≡ size_for rows }
@@ -67,6 +93,7 @@ pub(crate) fn form_of(form: zed_tool_words::Form) -> Form
     match form {
         zed_tool_words::Form::Coloured => Form::Coloured,
         zed_tool_words::Form::Plain => Form::Plain,
+        zed_tool_words::Form::Ruled => Form::Ruled,
         zed_tool_words::Form::Svg => Form::Svg,
     }
 }
@@ -78,6 +105,18 @@ pub(crate) fn strictness_of(strictness: zed_tool_words::Strictness) -> Strictnes
     match strictness {
         zed_tool_words::Strictness::Lenient => Strictness::Lenient,
         zed_tool_words::Strictness::Strict => Strictness::Strict,
+    }
+}
+
+/// The same of `compare`.
+pub(crate) fn compare_strictness_of(
+    strictness: zed_tool_words::Strictness,
+) -> cmd_compare::Strictness
+    ensures { result ≡ compare_strictness_for strictness }
+{
+    match strictness {
+        zed_tool_words::Strictness::Lenient => cmd_compare::Strictness::Lenient,
+        zed_tool_words::Strictness::Strict => cmd_compare::Strictness::Strict,
     }
 }
 

@@ -6,10 +6,11 @@ ghost use Rattle.cmd_undo.specs.Undoing.{meaning_of};
 ghost use Rattle.zed_op.specs.declared.op.Edit.{Edit as TheEdit};
 ghost use Rattle.zed_files.specs.Texts.{text_in, texts_of};
 ghost use Rattle.zed_tool.specs.Answers.{answer_of};
-ghost use Rattle.zed_tool.specs.Driving.{Carried, to_open, to_set, to_set_program, to_take, to_tell, to_undo};
+ghost use Rattle.zed_tool.specs.Driving.{Carried, to_compare, to_open, to_set, to_set_program, to_take, to_tell, to_undo};
 
 use crate::answers::{drawn, set_told, told};
 use crate::error::ToolError;
+use cmd_compare::{Compare, Strictness};
 use cmd_program::SetProgram;
 use cmd_set::Set;
 use cmd_take::{Forcing, Open, Take};
@@ -18,6 +19,7 @@ use std::alloc::Global;
 use zed_driver::drive;
 use zed_files::{OfFiles, Rewrites, Telling};
 use zed_host::Host;
+use zed_types::Stamp;
 
 /// Tells something of the set of edits of edit files.
 pub(crate) fn tell<'a, H: Host, T: Telling>(
@@ -39,7 +41,7 @@ pub(crate) fn tell<'a, H: Host, T: Telling>(
 pub(crate) fn open_world<'a, H: Host>(
     alloc: Global,
     host: &mut H,
-    until: Option<u64>,
+    until: Option<Stamp>,
     forcing: Forcing,
     file: &'a str,
     world: &str,
@@ -100,6 +102,21 @@ pub(crate) fn set_program<'a, H: Host>(
 {
     let mut command = SetProgram::new(file, replica, board, stat, text);
     drawn(text, drive(alloc, host, &mut command))
+}
+
+/// Tells what a merge of two edit files overrides.
+pub(crate) fn compare_files<'a, H: Host>(
+    alloc: Global,
+    host: &mut H,
+    strictness: Strictness,
+    mine: &str,
+    theirs: &str,
+) -> Result<u8, ToolError<'a>>
+    ensures { Carried (hosts H.contents H.called H.failed H.faults)
+        (to_compare strictness mine.now theirs.now) (answer_of result) host.old host.new }
+{
+    let mut command = Compare::new(strictness, mine, theirs);
+    told(drive(alloc, host, &mut command))
 }
 
 /// Undoes edits of a file.

@@ -20,13 +20,14 @@ ghost use Rattle.zed_tool.specs.Outcome.{Acted, Complained, Prints, Runs, TellsA
 
 use crate::answers::played;
 use crate::asked::{
-    forcing_of, form_of, going_of, length_of, listing_of, others_of, size_of, strictness_of,
-    trial_of,
+    compare_strictness_of, filter_of, forcing_of, form_of, going_of, length_of, listing_of,
+    others_of, size_of, strictness_of, trial_of,
 };
-use crate::driving::{open_world, set_program, set_words, take_world, tell, undo};
+use crate::driving::{compare_files, open_world, set_program, set_words, take_world, tell, undo};
 use crate::error::ToolError;
 use crate::lines::{line_of, plain_line};
-use cmd_log::{Filter, Lint, Log};
+use cmd_log::{Lint, Log};
+use cmd_page::Page;
 use cmd_play::play;
 use cmd_program::{Program, Programs};
 use cmd_show::Show;
@@ -37,7 +38,7 @@ use zed_files::Refusal;
 use zed_host::Host;
 use zed_terminal::{Chance, Console, Inputs, Terminal};
 use zed_tool_words::{Command, ParseError, parse, version};
-use zed_undo::{Choice, Filter as Chosen};
+use zed_undo::Choice;
 
 const MEMORY_LINE: &[u8] = b"zztool: Memory\n";
 
@@ -99,20 +100,14 @@ fn act<'a, H: Host, T: Terminal, I: Inputs, C: Chance>(
         }
         Command::Log {
             length,
-            board,
-            cell,
-            replica,
-            since,
+            filter,
             files,
         } => {
-            let filter = Filter {
-                board: *board,
-                cell: *cell,
-                replica: *replica,
-                since: *since,
+            let log = Log {
+                length: length_of(*length),
+                filter: filter_of(*filter),
             };
-            let length = length_of(*length);
-            tell(alloc, host, files.as_slice(), Log { length, filter })
+            tell(alloc, host, files.as_slice(), log)
         }
         Command::List { listing, files } => {
             let listing = listing_of(*listing);
@@ -123,6 +118,7 @@ fn act<'a, H: Host, T: Terminal, I: Inputs, C: Chance>(
             let board = *board;
             tell(alloc, host, files.as_slice(), Show { form, board })
         }
+        Command::Page { files } => tell(alloc, host, files.as_slice(), Page {}),
         Command::Play {
             going,
             rows,
@@ -145,26 +141,24 @@ fn act<'a, H: Host, T: Terminal, I: Inputs, C: Chance>(
             let strictness = strictness_of(*strictness);
             tell(alloc, host, files.as_slice(), Lint { strictness })
         }
+        Command::Compare {
+            strictness,
+            mine,
+            theirs,
+        } => {
+            let strictness = compare_strictness_of(*strictness);
+            compare_files(alloc, host, strictness, mine, theirs)
+        }
         Command::Undo {
             trial,
             others,
             file,
             replica,
             stamps,
-            board,
-            cell,
-            by,
-            since,
-            until,
+            filter,
             last,
         } => {
-            let filter = Chosen {
-                board: *board,
-                cell: *cell,
-                replica: *by,
-                since: *since,
-                until: *until,
-            };
+            let filter = filter_of(*filter);
             let stamps = stamps.as_slice();
             let last = *last;
             let source = Source::Chosen(Choice {
@@ -271,7 +265,7 @@ fn run_words<H: Host, T: Terminal, I: Inputs, C: Chance>(
 }
 
 /// Runs the command that the words after the program's name ask for. The exit status is 0; 1 if
-/// `lint --strict` finds something; 1 after a refusal, whose line is on standard error; or 2, with a
+/// `lint --strict` or `compare --strict` finds something; 1 after a refusal, whose line is on standard error; or 2, with a
 /// text there, if the words are no command. Help and the version are printed with status 0.
 ///
 /// Unless the host fails at a write or at printing (`File`), a refusal writes no file. If a write

@@ -9,7 +9,7 @@ alone = refl
 
 pub behind_commands : HelpOfCommands
 unfolding clap_on_literals
-behind_commands = (refl, refl, refl, refl, refl, refl, refl, refl, refl, refl)
+behind_commands = (refl, refl, refl, refl, refl, refl, refl, refl, refl, refl, refl, refl)
 
 pub version : VersionAsksVersion
 unfolding clap_on_literals

@@ -10,11 +10,12 @@ use Rattle.clap.specs.Kinds.{IsAmong, Kinds}
 use Rattle.clap.specs.declared.error.kind.ErrorKind.TheVariants.{DisplayHelp, DisplayVersion}
 use Rattle.zed_types.specs.declared.stamp.Stamp.{Stamp}
 use Rattle.zed_words.specs.Commands.{number_of}
-use Rattle.zed_set_words.specs.Values.{stamp_of}
+use Rattle.zed_set_words.specs.Values.{board_of, first_of as first_stamp_of, last_of as last_stamp_of, stamp_of}
+use Rattle.zed_tool_words.specs.declared.asked.Filter.{Filter}
 use Rattle.zed_tool_words.specs.declared.asked.Forcing.{Forcing}
 use Rattle.zed_tool_words.specs.declared.asked.Forcing.TheVariants.{Careful, Forced}
 use Rattle.zed_tool_words.specs.declared.asked.Form.{Form}
-use Rattle.zed_tool_words.specs.declared.asked.Form.TheVariants.{Coloured, Plain, Svg}
+use Rattle.zed_tool_words.specs.declared.asked.Form.TheVariants.{Coloured, Plain, Ruled, Svg}
 use Rattle.zed_tool_words.specs.declared.asked.Going.{Going}
 use Rattle.zed_tool_words.specs.declared.asked.Going.TheVariants.{Stays, On}
 use Rattle.zed_tool_words.specs.declared.asked.Length.{Length}
@@ -36,24 +37,20 @@ use Rattle.zed_tool_words.specs.Grammar.{tool_app}
 -- which edits are undone: those of these stamps, or of any if there is none, that pass all filters; and of these the last so many
 pub record Chosen : Type 0 where
   pub stamps : List Stamp
-  pub board : Option ℕ
-  pub cell : Option (ℕ × ℕ × ℕ)
-  pub by : Option ℕ
-  pub since : Option ℕ
-  pub until : Option ℕ
+  pub filter : Filter
   pub last : Option ℕ
 
 -- a command with its words
 pub data Command : Type 0 where
-  Open : (until : Option ℕ) → (forcing : Forcing) → (file : Text) → (world : Text) → Command
+  Open : (until : Option Stamp) → (forcing : Forcing) → (file : Text) → (world : Text) → Command
   Take : (base : Option Text) → (forcing : Forcing) → (file : Text) → (replica : ℕ) → (world : Text) → Command
-  Log : (length : Length) → (board : Option ℕ) → (cell : Option (ℕ × ℕ × ℕ)) → (replica : Option ℕ) → (since : Option ℕ)
-      → (files : List Text)
-      → Command
+  Log : (length : Length) → (filter : Filter) → (files : List Text) → Command
   Lists : (listing : Listing) → (files : List Text) → Command
   Show : (form : Form) → (board : ℕ) → (files : List Text) → Command
+  Page : (files : List Text) → Command
   Play : (going : Going) → (rows : Option ℕ) → (words : Option Text) → (keys : Option Text) → (board : ℕ) → (files : List Text) → Command
   Lint : (strictness : Strictness) → (files : List Text) → Command
+  Compare : (strictness : Strictness) → (mine : Text) → (theirs : Text) → Command
   Undo : (trial : Trial) → (others : Others) → (file : Text) → (replica : ℕ) → (chosen : Chosen) → Command
   UndoPull : (trial : Trial) → (others : Others) → (file : Text) → (replica : ℕ) → (new : Text) → (old : Text) → Command
   Set : (file : Text) → (replica : ℕ) → (words : List Text) → Command
@@ -65,22 +62,16 @@ pub data Command : Type 0 where
 abbrev pub meaning_of : Spoken → Command
 meaning_of (spoken.Open until forcing file world) = Open until forcing file.now world.now
 meaning_of (spoken.Take base forcing file replica world) = Take (option_map (λ s. s.now) base) forcing file.now replica world.now
-meaning_of (spoken.Log length board cell replica since files) = Log length board cell replica since (map (λ s. s.now) files.items)
+meaning_of (spoken.Log length filter files) = Log length filter (map (λ s. s.now) files.items)
 meaning_of (spoken.List listing files) = Lists listing (map (λ s. s.now) files.items)
 meaning_of (spoken.Show form board files) = Show form board (map (λ s. s.now) files.items)
+meaning_of (spoken.Page files) = Page (map (λ s. s.now) files.items)
 meaning_of (spoken.Play going rows words keys board files) =
     Play going rows (option_map (λ s. s.now) words) (option_map (λ s. s.now) keys) board (map (λ s. s.now) files.items)
 meaning_of (spoken.Lint strictness files) = Lint strictness (map (λ s. s.now) files.items)
-meaning_of (spoken.Undo trial others file replica stamps board cell by since until last) =
-    Undo trial others file.now replica (record {
-      stamps = stamps.items;
-      board = board;
-      cell = cell;
-      by = by;
-      since = since;
-      until = until;
-      last = last;
-    })
+meaning_of (spoken.Compare strictness mine theirs) = Compare strictness mine.now theirs.now
+meaning_of (spoken.Undo trial others file replica stamps filter last) =
+    Undo trial others file.now replica (record { stamps = stamps.items; filter = filter; last = last })
 meaning_of (spoken.UndoPull trial others file replica new old) = UndoPull trial others file.now replica new.now old.now
 meaning_of (spoken.Set file replica words) = Set file.now replica (map (λ s. s.now) words.items)
 meaning_of (spoken.Program board stat files) = ProgramOf board stat (map (λ s. s.now) files.items)
@@ -112,32 +103,21 @@ going_of rows = if has_flag (codes "boards") rows then On else Stays
 abbrev pub strictness_of : List Row → Strictness
 strictness_of rows = if has_flag (codes "strict") rows then Strict else Lenient
 
--- by whether `--plain` is there, and `--svg`: not both
-abbrev pub form_by : Bool → Bool → Option Form
-form_by false false = Some Coloured
-form_by true false = Some Plain
-form_by false true = Some Svg
-form_by true true = None
+-- by whether `--plain` is there, `--ruler`, and `--svg`: one at most
+abbrev pub form_by : Bool → Bool → Bool → Option Form
+form_by false false false = Some Coloured
+form_by true false false = Some Plain
+form_by false true false = Some Ruled
+form_by false false true = Some Svg
+form_by _ _ _ = None
 
 -- the form that is asked for
 abbrev pub form_of : List Row → Option Form
-form_of rows = form_by (has_flag (codes "plain") rows) (has_flag (codes "svg") rows)
+form_of rows = form_by (has_flag (codes "plain") rows) (has_flag (codes "ruler") rows) (has_flag (codes "svg") rows)
 
 -- the number of the option of this name, of so many bits, if it is there
 abbrev pub option_number : ℕ → Text → List Row → Option ℕ
 option_number bits name rows = option_and_then (number_of bits) (one_of name rows)
-
--- what the rows say, for `open`
-abbrev pub open_of : List Row → Option Command
-open_of rows = option_and_then (λ file. option_map (λ world.
-    Open (option_number 64 (codes "until") rows) (forcing_of rows) file world)
-    (first_of (codes "WORLD") rows)) (first_of (codes "FILE") rows)
-
--- for `take`
-abbrev pub take_of : List Row → Option Command
-take_of rows = option_and_then (λ file. option_and_then (λ replica. option_map (λ world.
-    Take (first_of (codes "base") rows) (forcing_of rows) file replica world)
-    (first_of (codes "WORLD") rows)) (option_number 16 (codes "REPLICA") rows)) (first_of (codes "FILE") rows)
 
 -- a number from one to another
 abbrev pub number_within : ℕ → ℕ → Text → Option ℕ
@@ -155,11 +135,38 @@ abbrev pub cell_asked : Option (List Text) → Option (Option (ℕ × ℕ × ℕ
 cell_asked None = Some None
 cell_asked (Some words) = option_map (λ cell. Some cell) (cell_by words)
 
+-- what the word of an option says, if that is there; the words are refused where it says nothing
+abbrev pub asked_by : {A : Type 0} → (Text → Option A) → Option Text → Option (Option A)
+asked_by read None = Some None
+asked_by read (Some word) = option_map (λ x. Some x) (read word)
+
+-- the filters, where the author's number is behind this name: a board by number or name, a cell, and moments
+abbrev pub filter_of : Text → List Row → Option Filter
+filter_of author rows = option_and_then (λ board. option_and_then (λ cell. option_and_then (λ since. option_map (λ until.
+    record { board = board; cell = cell; replica = option_number 16 author rows; since = since; until = until })
+    (asked_by last_stamp_of (first_of (codes "until") rows))) (asked_by first_stamp_of (first_of (codes "since") rows)))
+    (cell_asked (all_of (codes "cell") rows))) (asked_by board_of (first_of (codes "board") rows))
+
+-- whether all edits pass
+abbrev pub asks_nothing : Filter → Bool
+asks_nothing f = is_none f.board && is_none f.cell && is_none f.replica && is_none f.since && is_none f.until
+
+-- what the rows say, for `open`
+abbrev pub open_of : List Row → Option Command
+open_of rows = option_and_then (λ until. option_and_then (λ file. option_map (λ world.
+    Open until (forcing_of rows) file world)
+    (first_of (codes "WORLD") rows)) (first_of (codes "FILE") rows)) (asked_by last_stamp_of (first_of (codes "until") rows))
+
+-- for `take`
+abbrev pub take_of : List Row → Option Command
+take_of rows = option_and_then (λ file. option_and_then (λ replica. option_map (λ world.
+    Take (first_of (codes "base") rows) (forcing_of rows) file replica world)
+    (first_of (codes "WORLD") rows)) (option_number 16 (codes "REPLICA") rows)) (first_of (codes "FILE") rows)
+
 -- for `log`
 abbrev pub log_of : List Row → Option Command
-log_of rows = option_and_then (λ cell. option_map (λ files.
-    Log (length_of rows) (option_number 16 (codes "board") rows) cell (option_number 16 (codes "replica") rows) (option_number 64 (codes "since") rows) files)
-    (all_of (codes "FILES") rows)) (cell_asked (all_of (codes "cell") rows))
+log_of rows = option_and_then (λ filter. option_map (λ files. Log (length_of rows) filter files)
+    (all_of (codes "FILES") rows)) (filter_of (codes "replica") rows)
 
 -- a word of decimal digits alone
 abbrev pub is_decimal : Text → Bool
@@ -193,6 +200,10 @@ abbrev pub show_of : List Row → Option Command
 show_of rows = option_and_then (λ form. option_and_then (λ board. option_map (λ files.
     Show form board files) (all_of (codes "FILES") rows)) (option_number 16 (codes "BOARD") rows)) (form_of rows)
 
+-- for `page`
+abbrev pub page_of : List Row → Option Command
+page_of rows = option_map (λ files. Page files) (all_of (codes "FILES") rows)
+
 -- for `play`
 abbrev pub play_of : List Row → Option Command
 play_of rows = option_and_then (λ board. option_map (λ files.
@@ -202,6 +213,11 @@ play_of rows = option_and_then (λ board. option_map (λ files.
 -- for `lint`
 abbrev pub lint_of : List Row → Option Command
 lint_of rows = option_map (λ files. Lint (strictness_of rows) files) (all_of (codes "FILES") rows)
+
+-- for `compare`
+abbrev pub compare_of : List Row → Option Command
+compare_of rows = option_and_then (λ mine. option_map (λ theirs. Compare (strictness_of rows) mine theirs)
+    (first_of (codes "THEIRS") rows)) (first_of (codes "MINE") rows)
 
 -- what `--dry-run` says
 abbrev pub trial_of : List Row → Trial
@@ -221,21 +237,17 @@ abbrev pub stamps_asked : Option (List Text) → Option (List Stamp)
 stamps_asked None = Some []
 stamps_asked (Some words) = stamps_in words
 
--- the stamps and the filters, if stamps and a cell are such
+-- the stamps and the filters, if they are such
 abbrev pub chosen_of : List Row → Option Chosen
-chosen_of rows = option_and_then (λ stamps. option_map (λ cell. record {
+chosen_of rows = option_and_then (λ stamps. option_map (λ filter. record {
   stamps = stamps;
-  board = option_number 16 (codes "board") rows;
-  cell = cell;
-  by = option_number 16 (codes "by") rows;
-  since = option_number 64 (codes "since") rows;
-  until = option_number 64 (codes "until") rows;
+  filter = filter;
   last = option_number 16 (codes "last") rows;
-}) (cell_asked (all_of (codes "cell") rows))) (stamps_asked (all_of (codes "STAMPS") rows))
+}) (filter_of (codes "by") rows)) (stamps_asked (all_of (codes "STAMPS") rows))
 
 -- whether no edits are named: no stamp, no filter, no count
 abbrev pub names_none : Chosen → Bool
-names_none c = (length c.stamps == 0) && is_none c.board && is_none c.cell && is_none c.by && is_none c.since && is_none c.until && is_none c.last
+names_none c = (length c.stamps == 0) && asks_nothing c.filter && is_none c.last
 
 -- by the files of a pull, both or neither: edits are named either by these or otherwise
 abbrev pub undone_by : Trial → Others → Text → ℕ → Chosen → Option Text → Option Text → Option Command
@@ -299,11 +311,13 @@ subcommand_asks p =
     else (if bytes_eq p.0 (codes "log") then log_of p.1
     else (if bytes_eq p.0 (codes "list") then list_of p.1
     else (if bytes_eq p.0 (codes "show") then show_of p.1
+    else (if bytes_eq p.0 (codes "page") then page_of p.1
     else (if bytes_eq p.0 (codes "play") then play_of p.1
     else (if bytes_eq p.0 (codes "lint") then lint_of p.1
+    else (if bytes_eq p.0 (codes "compare") then compare_of p.1
     else (if bytes_eq p.0 (codes "undo") then undo_of p.1
     else (if bytes_eq p.0 (codes "set") then set_of p.1
-    else (if bytes_eq p.0 (codes "program") then program_of p.1 else None)))))))))
+    else (if bytes_eq p.0 (codes "program") then program_of p.1 else None)))))))))))
 
 -- what is asked for where `clap` finds no fault
 abbrev pub unless_refused : Kinds → Option Command → Option Command

@@ -24,10 +24,6 @@ any_rule id = record (new_rule id) { range = Some (record { start_inclusive = 1;
 abbrev pub option_rule : List ℕ → Rule
 option_rule id = record (new_rule id) { long = Some id; value_names = 1 }
 
--- a time there
-abbrev pub time_option : List ℕ → Rule
-time_option id = record (option_rule id) { parser = Some (value.Unsigned 0 18446744073709551615) }
-
 -- a number of at most 16 bits there
 abbrev pub number_option : List ℕ → Rule
 number_option id = record (option_rule id) { parser = Some (value.Signed (pos 0) (pos 65535)) }
@@ -52,10 +48,14 @@ trailing_rule id = record (several_rule id) { trailing_var_arg = true }
 abbrev pub shape_with : List ℕ → List Rule → Shape
 shape_with name rules = record (new_shape name) { rules = rules }
 
+-- a subcommand with more arguments
+abbrev pub shape_and : Shape → List Rule → Shape
+shape_and s rules = record s { rules = s.rules ++ rules }
+
 -- `open [--until TIME] [--force] FILE WORLD`
 abbrev pub open_shape : Shape
 open_shape = shape_with (codes "open")
-    (required_rule (codes "FILE") ∷ required_rule (codes "WORLD") ∷ time_option (codes "until") ∷ flag_rule (codes "force") ∷ [])
+    (required_rule (codes "FILE") ∷ required_rule (codes "WORLD") ∷ option_rule (codes "until") ∷ flag_rule (codes "force") ∷ [])
 
 -- `take [--force] [--base BASE] FILE REPLICA WORLD`
 abbrev pub take_shape : Shape
@@ -63,20 +63,33 @@ take_shape = shape_with (codes "take")
     (required_rule (codes "FILE") ∷ number_rule (codes "REPLICA") ∷ required_rule (codes "WORLD") ∷ option_rule (codes "base")
     ∷ flag_rule (codes "force") ∷ [])
 
--- `log [--full] [--board B] [--cell B X Y] [--replica R] [--since TIME] FILES...`
+-- `log [--full] FILES...`, without what names edits
+abbrev pub log_shape_of_files : Shape
+log_shape_of_files = shape_with (codes "log") (several_rule (codes "FILES") ∷ flag_rule (codes "full") ∷ [])
+
+-- with `[--board B] [--cell B X Y] [--replica R]`
+abbrev pub log_shape_by_place : Shape
+log_shape_by_place = shape_and log_shape_of_files (option_rule (codes "board") ∷ cell_rule ∷ number_option (codes "replica") ∷ [])
+
+-- with `[--since TIME] [--until TIME]`: the whole of `log`
 abbrev pub log_shape : Shape
-log_shape = shape_with (codes "log")
-    (several_rule (codes "FILES") ∷ flag_rule (codes "full") ∷ number_option (codes "board") ∷ cell_rule ∷ number_option (codes "replica")
-    ∷ time_option (codes "since") ∷ [])
+log_shape = shape_and log_shape_by_place (option_rule (codes "since") ∷ option_rule (codes "until") ∷ [])
 
 -- `list [B [S]] FILES...`, where numbers and files are words alike
 abbrev pub list_shape : Shape
 list_shape = shape_with (codes "list") (several_rule (codes "WORDS") ∷ [])
 
--- `show [--plain | --svg] BOARD FILES...`
+-- `show BOARD FILES...`, without a form
+abbrev pub show_shape_of_board : Shape
+show_shape_of_board = shape_with (codes "show") (number_rule (codes "BOARD") ∷ several_rule (codes "FILES") ∷ [])
+
+-- with `[--plain] [--ruler] [--svg]`: the whole of `show`
 abbrev pub show_shape : Shape
-show_shape = shape_with (codes "show")
-    (number_rule (codes "BOARD") ∷ several_rule (codes "FILES") ∷ flag_rule (codes "plain") ∷ flag_rule (codes "svg") ∷ [])
+show_shape = shape_and show_shape_of_board (flag_rule (codes "plain") ∷ flag_rule (codes "ruler") ∷ flag_rule (codes "svg") ∷ [])
+
+-- `page FILES...`
+abbrev pub page_shape : Shape
+page_shape = shape_with (codes "page") (several_rule (codes "FILES") ∷ [])
 
 -- `play [--boards] [--rows ROWS] [--words WORDS] [--keys KEYS] BOARD FILES...`
 abbrev pub play_shape : Shape
@@ -88,21 +101,21 @@ play_shape = shape_with (codes "play")
 abbrev pub lint_shape : Shape
 lint_shape = shape_with (codes "lint") (several_rule (codes "FILES") ∷ flag_rule (codes "strict") ∷ [])
 
+-- `compare [--strict] MINE THEIRS`
+abbrev pub compare_shape : Shape
+compare_shape = shape_with (codes "compare") (required_rule (codes "MINE") ∷ required_rule (codes "THEIRS") ∷ flag_rule (codes "strict") ∷ [])
+
 -- `undo FILE REPLICA [STAMPS...]`, without what names edits otherwise
 abbrev pub undo_shape_of_file : Shape
 undo_shape_of_file = shape_with (codes "undo") (required_rule (codes "FILE") ∷ number_rule (codes "REPLICA") ∷ any_rule (codes "STAMPS") ∷ [])
 
--- a subcommand with more arguments
-abbrev pub shape_and : Shape → List Rule → Shape
-shape_and s rules = record s { rules = s.rules ++ rules }
-
 -- with `[--board B] [--cell B X Y] [--by R]`
 abbrev pub undo_shape_by_place : Shape
-undo_shape_by_place = shape_and undo_shape_of_file (number_option (codes "board") ∷ cell_rule ∷ number_option (codes "by") ∷ [])
+undo_shape_by_place = shape_and undo_shape_of_file (option_rule (codes "board") ∷ cell_rule ∷ number_option (codes "by") ∷ [])
 
 -- with `[--since TIME] [--until TIME] [--last N]`
 abbrev pub undo_shape_by_time : Shape
-undo_shape_by_time = shape_and undo_shape_by_place (time_option (codes "since") ∷ time_option (codes "until") ∷ number_option (codes "last") ∷ [])
+undo_shape_by_time = shape_and undo_shape_by_place (option_rule (codes "since") ∷ option_rule (codes "until") ∷ number_option (codes "last") ∷ [])
 
 -- with `[--edits-of NEW] [--but OLD]`
 abbrev pub undo_shape_of_pull : Shape
@@ -127,4 +140,4 @@ top_app = on_top (λ s. record s { no_binary_name = true; arg_required_else_help
 -- the whole command line
 abbrev pub tool_app : App
 tool_app = fold with_subcommand top_app
-    (open_shape ∷ take_shape ∷ log_shape ∷ list_shape ∷ show_shape ∷ play_shape ∷ lint_shape ∷ undo_shape ∷ set_shape ∷ program_shape ∷ [])
+    (open_shape ∷ take_shape ∷ log_shape ∷ list_shape ∷ show_shape ∷ page_shape ∷ play_shape ∷ lint_shape ∷ compare_shape ∷ undo_shape ∷ set_shape ∷ program_shape ∷ [])

@@ -11,9 +11,9 @@ abbrev pub HelpOfCommands : Type 0
 HelpOfCommands =
     AsksHelp (codes "open" ∷ codes "--help" ∷ []) × AsksHelp (codes "take" ∷ codes "--help" ∷ [])
     × AsksHelp (codes "log" ∷ codes "--help" ∷ []) × AsksHelp (codes "list" ∷ codes "--help" ∷ [])
-    × AsksHelp (codes "show" ∷ codes "--help" ∷ []) × AsksHelp (codes "play" ∷ codes "--help" ∷ [])
+    × AsksHelp (codes "page" ∷ codes "--help" ∷ []) × AsksHelp (codes "show" ∷ codes "--help" ∷ []) × AsksHelp (codes "play" ∷ codes "--help" ∷ [])
     × AsksHelp (codes "lint" ∷ codes "--help" ∷ []) × AsksHelp (codes "set" ∷ codes "--help" ∷ [])
-    × AsksHelp (codes "undo" ∷ codes "--help" ∷ [])
+    × AsksHelp (codes "compare" ∷ codes "--help" ∷ []) × AsksHelp (codes "undo" ∷ codes "--help" ∷ [])
     × AsksHelp (codes "program" ∷ codes "--help" ∷ [])
 
 -- `--version` asks for the version

@@ -6,10 +6,6 @@ use Rattle.zed_tool_words.specs.Commands.{Chosen}
 abbrev pub meaning : Choice → Chosen
 meaning c = record {
   stamps = c.stamps.items;
-  board = c.board;
-  cell = c.cell;
-  by = c.by;
-  since = c.since;
-  until = c.until;
+  filter = c.filter;
   last = c.last;
 }

@@ -1,4 +1,5 @@
 //! What words may ask for.
+use zed_set_words::BoardPlace;
 use zed_types::Stamp;
 
 /// What a command does where work would be lost: `open` where a world file was drawn in and not
@@ -18,6 +19,8 @@ pub enum Form {
     Coloured,
     /// As plain text: `--plain`.
     Plain,
+    /// As plain text with the numbers of columns and rows: `--ruler`.
+    Ruled,
     /// As an SVG picture: `--svg`.
     Svg,
 }
@@ -40,7 +43,7 @@ pub enum Going {
     On,
 }
 
-/// Whether `lint` fails if it finds something.
+/// Whether `lint` or `compare` fails if it finds something.
 #[derive(Clone, Copy)]
 pub enum Strictness {
     /// It doesn't.
@@ -78,13 +81,26 @@ pub enum Others {
     Included,
 }
 
+/// Which edits are meant: those that pass all that is given.
+#[derive(Clone, Copy)]
+pub struct Filter {
+    pub board: Option<BoardPlace>,
+    /// The number of a board, then X from 1 to 60 and Y from 1 to 25.
+    pub cell: Option<(u16, u16, u16)>,
+    pub replica: Option<u16>,
+    /// The first stamp of those that are meant.
+    pub since: Option<Stamp>,
+    /// The last one.
+    pub until: Option<Stamp>,
+}
+
 /// What is to be done.
 #[derive(Drop)]
 pub enum Command<'a> {
     /// Write the world file of an edit file, to draw in with another editor.
     Open {
-        /// The time of the last edits that count; without it all count.
-        until: Option<u64>,
+        /// The stamp of the last edit that counts; without it all count.
+        until: Option<Stamp>,
         forcing: Forcing,
         file: &'a str,
         world: &'a str,
@@ -101,11 +117,7 @@ pub enum Command<'a> {
     /// List the edits of files: those that pass all given filters.
     Log {
         length: Length,
-        board: Option<u16>,
-        /// The number of a board, then X from 1 to 60 and Y from 1 to 25.
-        cell: Option<(u16, u16, u16)>,
-        replica: Option<u16>,
-        since: Option<u64>,
+        filter: Filter,
         files: Vec<&'a str>,
     },
     /// List the world of edit files.
@@ -117,6 +129,10 @@ pub enum Command<'a> {
     Show {
         form: Form,
         board: u16,
+        files: Vec<&'a str>,
+    },
+    /// Print a page with all boards of the world of edit files.
+    Page {
         files: Vec<&'a str>,
     },
     /// Play a board of the world of edit files at a terminal.
@@ -136,6 +152,12 @@ pub enum Command<'a> {
         strictness: Strictness,
         files: Vec<&'a str>,
     },
+    /// Tell what a merge of two edit files overrides.
+    Compare {
+        strictness: Strictness,
+        mine: &'a str,
+        theirs: &'a str,
+    },
     /// Undo chosen edits of an edit file by new edits of an author: those that pass all that is given.
     Undo {
         trial: Trial,
@@ -144,12 +166,7 @@ pub enum Command<'a> {
         replica: u16,
         /// The edits of these stamps, or of any, if there is none.
         stamps: Vec<Stamp>,
-        board: Option<u16>,
-        /// The number of a board, then X from 1 to 60 and Y from 1 to 25.
-        cell: Option<(u16, u16, u16)>,
-        by: Option<u16>,
-        since: Option<u64>,
-        until: Option<u64>,
+        filter: Filter,
         /// The last so many of those that pass all others.
         last: Option<u16>,
     },

@@ -2,7 +2,7 @@
 ghost use Rattle.std.specs.Prelude.{◌≡◌, codes, false, IfOk};
 ghost use Rattle.clap.specs.Words.{app_of, new_app, rule_of, shape_of, with_rule, with_subcommand};
 ghost use Rattle.clap.specs.declared.builder.command.Command.TheViews.{out-Command};
-ghost use Rattle.zed_tool_words.specs.Grammar.{any_rule, cell_rule, flag_rule, lint_shape, list_shape, log_shape, number_option, number_rule, open_shape, option_rule, play_shape, program_shape, required_rule, set_shape, several_rule, show_shape, take_shape, time_option, tool_app, top_app, trailing_rule, undo_shape, undo_shape_by_place, undo_shape_by_time, undo_shape_of_file, undo_shape_of_pull};
+ghost use Rattle.zed_tool_words.specs.Grammar.{any_rule, cell_rule, compare_shape, flag_rule, lint_shape, list_shape, log_shape, log_shape_by_place, log_shape_of_files, number_option, number_rule, open_shape, option_rule, page_shape, play_shape, program_shape, required_rule, set_shape, several_rule, show_shape, show_shape_of_board, take_shape, tool_app, top_app, trailing_rule, undo_shape, undo_shape_by_place, undo_shape_by_time, undo_shape_of_file, undo_shape_of_pull};
 
 use crate::release::VERSION;
 use clap::{Arg, ArgAction, Command};
@@ -46,12 +46,12 @@ fn option_argument<'a>(alloc: Global, name: &'a str, value: &'a str, help: &'a s
         .help(help)
 }
 
-// A time behind a name with two hyphens.
-fn time_argument<'a>(alloc: Global, name: &'a str, help: &'a str) -> Arg<'a>
-    ensures rule { rule_of result ≡ time_option name.entry.now }
+// A moment behind a name with two hyphens.
+fn moment_argument<'a>(alloc: Global, name: &'a str, help: &'a str) -> Arg<'a>
+    ensures rule { rule_of result ≡ option_rule name.entry.now }
     ensures local { result.global ≡ false }
 {
-    option_argument(alloc, name, "TIME", help).value_parser(clap::value_parser!(u64))
+    option_argument(alloc, name, "TIME", help)
 }
 
 // A number behind a name with two hyphens.
@@ -158,7 +158,11 @@ fn open_command<'a>(alloc: Global) -> Result<Command<'a>, AllocError>
     )?;
     let command = with_argument(
         command,
-        time_argument(alloc, "until", "Write the world as it was at this time"),
+        moment_argument(
+            alloc,
+            "until",
+            "Write the world as it was at this time: the first number of a line of log, or the first two, such as 6.1",
+        ),
     )?;
     with_argument(
         command,
@@ -204,9 +208,9 @@ fn take_command<'a>(alloc: Global) -> Result<Command<'a>, AllocError>
     )
 }
 
-/// `log [--full] [--board B] [--cell B X Y] [--replica R] [--since TIME] FILES...`
-fn log_command<'a>(alloc: Global) -> Result<Command<'a>, AllocError>
-    ensures shape { IfOk result (λ c. shape_of c ≡ log_shape) }
+// `log` with the files and what a line has.
+fn log_of_files<'a>(alloc: Global) -> Result<Command<'a>, AllocError>
+    ensures shape { IfOk result (λ c. shape_of c ≡ log_shape_of_files) }
     ensures local { IfOk result (λ c. (out-Command c).has_globals ≡ false) }
 {
     let command = bare_command(
@@ -215,17 +219,25 @@ fn log_command<'a>(alloc: Global) -> Result<Command<'a>, AllocError>
         "List edits, a line each: when, by whom and what",
     );
     let command = with_argument(command, files_argument(alloc))?;
-    let command = with_argument(
+    with_argument(
         command,
         flag_argument(alloc, "full", "Print the bytes of a starting world too"),
-    )?;
+    )
+}
+
+// The same with the filters that name edits by place and author.
+fn log_by_place<'a>(alloc: Global) -> Result<Command<'a>, AllocError>
+    ensures shape { IfOk result (λ c. shape_of c ≡ log_shape_by_place) }
+    ensures local { IfOk result (λ c. (out-Command c).has_globals ≡ false) }
+{
+    let command = log_of_files(alloc)?;
     let command = with_argument(
         command,
-        number_argument(
+        option_argument(
             alloc,
             "board",
             "B",
-            "List only edits of the board of this number, 0 for the title",
+            "List only edits of the board of this number, 0 for the title, or of this name, such as 2.1:0",
         ),
     )?;
     let command = with_argument(
@@ -235,7 +247,7 @@ fn log_command<'a>(alloc: Global) -> Result<Command<'a>, AllocError>
             "List only edits of this cell of board B: X is 1 to 60, Y 1 to 25",
         ),
     )?;
-    let command = with_argument(
+    with_argument(
         command,
         number_argument(
             alloc,
@@ -243,10 +255,26 @@ fn log_command<'a>(alloc: Global) -> Result<Command<'a>, AllocError>
             "R",
             "List only edits of the author of this number",
         ),
+    )
+}
+
+/// `log [--full] [--board B] [--cell B X Y] [--replica R] [--since TIME] [--until TIME] FILES...`
+fn log_command<'a>(alloc: Global) -> Result<Command<'a>, AllocError>
+    ensures shape { IfOk result (λ c. shape_of c ≡ log_shape) }
+    ensures local { IfOk result (λ c. (out-Command c).has_globals ≡ false) }
+{
+    let command = log_by_place(alloc)?;
+    let command = with_argument(
+        command,
+        moment_argument(
+            alloc,
+            "since",
+            "List only edits of this time or later: the first number of a line, or the first two, such as 6.1",
+        ),
     )?;
     with_argument(
         command,
-        time_argument(alloc, "since", "List only edits of this time or later"),
+        moment_argument(alloc, "until", "List only edits of this time or earlier"),
     )
 }
 
@@ -270,9 +298,9 @@ fn list_command<'a>(alloc: Global) -> Result<Command<'a>, AllocError>
     )
 }
 
-/// `show [--plain | --svg] BOARD FILES...`
-fn show_command<'a>(alloc: Global) -> Result<Command<'a>, AllocError>
-    ensures shape { IfOk result (λ c. shape_of c ≡ show_shape) }
+// `show` with the board and the files.
+fn show_of_board<'a>(alloc: Global) -> Result<Command<'a>, AllocError>
+    ensures shape { IfOk result (λ c. shape_of c ≡ show_shape_of_board) }
     ensures local { IfOk result (λ c. (out-Command c).has_globals ≡ false) }
 {
     let command = bare_command(
@@ -288,15 +316,44 @@ fn show_command<'a>(alloc: Global) -> Result<Command<'a>, AllocError>
             "The number of the board, 0 for the title; list prints the numbers",
         ),
     )?;
-    let command = with_argument(command, files_argument(alloc))?;
+    with_argument(command, files_argument(alloc))
+}
+
+/// `show [--plain | --ruler | --svg] BOARD FILES...`
+fn show_command<'a>(alloc: Global) -> Result<Command<'a>, AllocError>
+    ensures shape { IfOk result (λ c. shape_of c ≡ show_shape) }
+    ensures local { IfOk result (λ c. (out-Command c).has_globals ≡ false) }
+{
+    let command = show_of_board(alloc)?;
     let command = with_argument(
         command,
         flag_argument(alloc, "plain", "Print only text, without colours"),
+    )?;
+    let command = with_argument(
+        command,
+        flag_argument(
+            alloc,
+            "ruler",
+            "Print plain text with the numbers of columns and rows at the edges",
+        ),
     )?;
     with_argument(
         command,
         flag_argument(alloc, "svg", "Print a picture, an SVG file"),
     )
+}
+
+/// `page FILES...`
+fn page_command<'a>(alloc: Global) -> Result<Command<'a>, AllocError>
+    ensures shape { IfOk result (λ c. shape_of c ≡ page_shape) }
+    ensures local { IfOk result (λ c. (out-Command c).has_globals ≡ false) }
+{
+    let command = bare_command(
+        alloc,
+        "page",
+        "Print a page for a browser with all boards, their stats and their programs",
+    );
+    with_argument(command, files_argument(alloc))
 }
 
 /// `play [--boards] [--rows ROWS] [--words WORDS] [--keys KEYS] BOARD FILES...`
@@ -372,6 +429,31 @@ fn lint_command<'a>(alloc: Global) -> Result<Command<'a>, AllocError>
     )
 }
 
+/// `compare [--strict] MINE THEIRS`
+fn compare_command<'a>(alloc: Global) -> Result<Command<'a>, AllocError>
+    ensures shape { IfOk result (λ c. shape_of c ≡ compare_shape) }
+    ensures local { IfOk result (λ c. (out-Command c).has_globals ≡ false) }
+{
+    let command = bare_command(
+        alloc,
+        "compare",
+        "Tell what the merge of two edit files doesn't show of either: what one author did and the other one's edits override",
+    );
+    let command = with_argument(command, required_argument(alloc, "MINE", "Your edit file"))?;
+    let command = with_argument(
+        command,
+        required_argument(alloc, "THEIRS", "The other one's edit file"),
+    )?;
+    with_argument(
+        command,
+        flag_argument(
+            alloc,
+            "strict",
+            "Exit with status 1 if a line follows the first",
+        ),
+    )
+}
+
 // `undo` with the edit file, the author and the stamps.
 fn undo_of_file<'a>(alloc: Global) -> Result<Command<'a>, AllocError>
     ensures shape { IfOk result (λ c. shape_of c ≡ undo_shape_of_file) }
@@ -405,7 +487,12 @@ fn undo_by_place<'a>(alloc: Global) -> Result<Command<'a>, AllocError>
     let command = undo_of_file(alloc)?;
     let command = with_argument(
         command,
-        number_argument(alloc, "board", "B", "Edits of the board of this number"),
+        option_argument(
+            alloc,
+            "board",
+            "B",
+            "Edits of the board of this number, or of this name, such as 2.1:0",
+        ),
     )?;
     let command = with_argument(
         command,
@@ -428,11 +515,15 @@ fn undo_by_time<'a>(alloc: Global) -> Result<Command<'a>, AllocError>
     let command = undo_by_place(alloc)?;
     let command = with_argument(
         command,
-        time_argument(alloc, "since", "Edits of this time or later"),
+        moment_argument(
+            alloc,
+            "since",
+            "Edits of this time or later: the first number of a line of log, or the first two, such as 6.1",
+        ),
     )?;
     let command = with_argument(
         command,
-        time_argument(alloc, "until", "Edits of this time or earlier"),
+        moment_argument(alloc, "until", "Edits of this time or earlier"),
     )?;
     with_argument(
         command,
@@ -576,8 +667,10 @@ pub(crate) fn tool_command<'a>(alloc: Global) -> Result<Command<'a>, AllocError>
     let program = with_command(program, log_command(alloc)?)?;
     let program = with_command(program, list_command(alloc)?)?;
     let program = with_command(program, show_command(alloc)?)?;
+    let program = with_command(program, page_command(alloc)?)?;
     let program = with_command(program, play_command(alloc)?)?;
     let program = with_command(program, lint_command(alloc)?)?;
+    let program = with_command(program, compare_command(alloc)?)?;
     let program = with_command(program, undo_command(alloc)?)?;
     let program = with_command(program, set_command(alloc)?)?;
     with_command(program, program_command(alloc)?)

@@ -2,6 +2,7 @@
 #![tactic(auto)]
 
 mod asked;
+mod filters;
 mod grammar;
 mod laws;
 mod listed;
@@ -10,7 +11,9 @@ mod release;
 mod undone;
 mod words;
 
-pub use asked::{Command, Forcing, Form, Going, Length, Listing, Others, Strictness, Trial};
+pub use asked::{
+    Command, Filter, Forcing, Form, Going, Length, Listing, Others, Strictness, Trial,
+};
 pub use laws::{help_words, version_words};
 pub use release::version;
 pub use words::{ParseError, parse};

@@ -1,10 +1,10 @@
 //! The words of `undo`.
 ghost use Rattle.std.specs.Prelude.{◌≡◌, IfOk, map, option_map};
 ghost use Rattle.zed_set_words.specs.Values.{stamp_of};
-ghost use Rattle.zed_tool_words.specs.Commands.{meaning_of, names_none as names_no_edits, stamps_asked as stamps_for, stamps_in, undone_by};
+ghost use Rattle.zed_tool_words.specs.Commands.{asks_nothing, meaning_of, names_none as names_no_edits, stamps_asked as stamps_for, stamps_in, undone_by};
 ghost use Rattle.zed_tool_words.specs.Undone.{meaning};
 
-use crate::asked::{Command, Others, Trial};
+use crate::asked::{Command, Filter, Others, Trial};
 use std::alloc::{AllocError, Global};
 use zed_set_words::stamp;
 use zed_types::Stamp;
@@ -13,11 +13,7 @@ use zed_types::Stamp;
 #[derive(Drop)]
 pub(crate) struct Choice {
     pub stamps: Vec<Stamp>,
-    pub board: Option<u16>,
-    pub cell: Option<(u16, u16, u16)>,
-    pub by: Option<u16>,
-    pub since: Option<u64>,
-    pub until: Option<u64>,
+    pub filter: Filter,
     pub last: Option<u16>,
 }
 
@@ -50,17 +46,22 @@ pub(crate) fn stamps_asked(
     }
 }
 
+// Whether all edits pass.
+fn passes_all(filter: Filter) -> bool
+    ensures { result ≡ asks_nothing filter }
+{
+    filter.board.is_none()
+        && filter.cell.is_none()
+        && filter.replica.is_none()
+        && filter.since.is_none()
+        && filter.until.is_none()
+}
+
 // Whether no edits are named.
 fn names_none(choice: &Choice) -> bool
     ensures { result ≡ names_no_edits (meaning choice.now) }
 {
-    choice.stamps.as_slice().is_empty()
-        && choice.board.is_none()
-        && choice.cell.is_none()
-        && choice.by.is_none()
-        && choice.since.is_none()
-        && choice.until.is_none()
-        && choice.last.is_none()
+    choice.stamps.as_slice().is_empty() && passes_all(choice.filter) && choice.last.is_none()
 }
 
 /// What the words ask for: edits are named by the files of a pull, or otherwise.
@@ -84,11 +85,7 @@ pub(crate) fn undone<'a>(
             file,
             replica,
             stamps: choice.stamps,
-            board: choice.board,
-            cell: choice.cell,
-            by: choice.by,
-            since: choice.since,
-            until: choice.until,
+            filter: choice.filter,
             last: choice.last,
         }),
         (Some(new), Some(old)) if names_no_edit => Some(Command::UndoPull {

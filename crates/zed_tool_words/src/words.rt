@@ -4,10 +4,11 @@ ghost use Rattle.clap.specs.Walk.{all_of, first_of, one_of};
 ghost use Rattle.clap.specs.Words.{FailsBy, fault_of, found_of, rows_of, subcommand_of, subcommand_rows_of};
 ghost use Rattle.zed_tool_words.specs.declared.words.ParseError.TheVariants.{Memory};
 ghost use Rattle.zed_tool_words.specs.Grammar.{tool_app};
-ghost use Rattle.zed_tool_words.specs.Commands.{AsksNothing, IsAloud, command_of, forcing_of, form_of, going_of, has_flag as has_that_flag, length_of, lint_of, list_of, log_of, meaning_of, open_of, option_number, play_of, program_by, program_of, set_of, show_of, strictness_of, subcommand_asks, take_of, trial_of, others_of, undo_of, chosen_of};
+ghost use Rattle.zed_tool_words.specs.Commands.{AsksNothing, IsAloud, command_of, compare_of, forcing_of, form_of, going_of, filter_of, has_flag as has_that_flag, length_of, lint_of, list_of, log_of, meaning_of, open_of, option_number, page_of, play_of, program_by, program_of, set_of, show_of, strictness_of, subcommand_asks, take_of, trial_of, others_of, undo_of, chosen_of};
 ghost use Rattle.zed_tool_words.specs.Undone.{meaning};
 
-use crate::asked::{Command, Forcing, Form, Going, Length, Others, Strictness, Trial};
+use crate::asked::{Command, Filter, Forcing, Form, Going, Length, Others, Strictness, Trial};
+use crate::filters::{board_asked, since_asked, until_asked};
 use crate::grammar::tool_command;
 use crate::listed::{cell_in, listed};
 use crate::programs::{program, program_to_set};
@@ -16,20 +17,23 @@ use clap::error::ErrorKind;
 use clap::{ArgMatches, Error};
 use std::alloc::{AllocError, Global};
 
-const NO_CELL: &str =
-    "error: the words behind '--cell' are no cell: B is the number of a board, X is 1 to 60 and Y is 1 to 25\n\nFor more information, try '--help'.\n";
+const NO_FILTER: &str =
+    "error: 'log' takes behind '--board' the number of a board or its name, such as 2.1:0; behind '--cell' B X Y, where B is the number of a board, X is 1 to 60 and Y is 1 to 25; behind '--since' and '--until' TIME or TIME.REPLICA, such as 6 or 6.1\n\nFor more information, try '--help'.\n";
+
+const NO_MOMENT: &str =
+    "error: 'open' takes behind '--until' TIME or TIME.REPLICA, such as 6 or 6.1\n\nFor more information, try '--help'.\n";
 
 const NO_FILES: &str =
     "error: 'list' takes at most two numbers up to 65535, and a file behind them\n\nFor more information, try '--help'.\n";
 
 const TWO_FORMS: &str =
-    "error: '--plain' and '--svg' can't both be there\n\nFor more information, try '--help'.\n";
+    "error: only one of '--plain', '--ruler' and '--svg' can be there\n\nFor more information, try '--help'.\n";
 
 const NO_PROGRAM: &str =
     "error: 'program' takes the numbers of a board and of a stat, up to 65535, and a file behind them; with '--all' files alone; with '--set' FILE REPLICA B S TEXT\n\nFor more information, try '--help'.\n";
 
 const NO_CHOICE: &str =
-    "error: 'undo' takes what to undo behind FILE REPLICA: stamps as 6.1, filters, or --edits-of NEW --but OLD alone; behind '--cell' B is the number of a board, X is 1 to 60 and Y is 1 to 25\n\nFor more information, try '--help'.\n";
+    "error: 'undo' takes what to undo behind FILE REPLICA: stamps as 6.1, filters, or --edits-of NEW --but OLD alone; behind '--board' the number of a board or its name, such as 2.1:0; behind '--cell' B is the number of a board, X is 1 to 60 and Y is 1 to 25; behind '--since' and '--until' TIME or TIME.REPLICA, such as 6 or 6.1\n\nFor more information, try '--help'.\n";
 
 // What the user is told where clap has no text for words that it refuses.
 const NO_COMMAND: &str =
@@ -145,11 +149,15 @@ fn strictness_in(matches: &ArgMatches<'_>) -> Strictness
 fn form_in(matches: &ArgMatches<'_>) -> Option<Form>
     ensures { result ≡ form_of (rows_of (found_of matches.now)) }
 {
-    match (has_flag(matches, "plain"), has_flag(matches, "svg")) {
-        (false, false) => Some(Form::Coloured),
-        (true, false) => Some(Form::Plain),
-        (false, true) => Some(Form::Svg),
-        (true, true) => None,
+    let plain = has_flag(matches, "plain");
+    let ruler = has_flag(matches, "ruler");
+    let svg = has_flag(matches, "svg");
+    match (plain, ruler, svg) {
+        (false, false, false) => Some(Form::Coloured),
+        (true, false, false) => Some(Form::Plain),
+        (false, true, false) => Some(Form::Ruled),
+        (false, false, true) => Some(Form::Svg),
+        _ => None,
     }
 }
 
@@ -161,13 +169,6 @@ fn words_in<'m, 'a>(matches: &'m ArgMatches<'a>, name: &str) -> Option<&'m [&'a 
     matches.get_strs(name)
 }
 
-// The time that the word of this name writes, if it is there.
-fn time_in(matches: &ArgMatches<'_>, name: &str) -> Option<u64>
-    ensures { result ≡ option_number 64 name.now (rows_of (found_of matches.now)) }
-{
-    matches.get_one::<u64>(name)
-}
-
 // The number that the word of this name writes, if it is there.
 fn number_in(matches: &ArgMatches<'_>, name: &str) -> Option<u16>
     ensures { result ≡ option_number 16 name.now (rows_of (found_of matches.now)) }
@@ -175,21 +176,37 @@ fn number_in(matches: &ArgMatches<'_>, name: &str) -> Option<u16>
     matches.get_one::<u16>(name)
 }
 
+// The filters, if all are such; the author's number is behind this name.
+fn filter_in(matches: &ArgMatches<'_>, author: &str) -> Option<Filter>
+    ensures { result ≡ filter_of author.now (rows_of (found_of matches.now)) }
+{
+    let replica = number_in(matches, author);
+    let board = board_asked(word_in(matches, "board"))?;
+    let cell = cell_in(words_in(matches, "cell"))?;
+    let since = since_asked(word_in(matches, "since"))?;
+    let until = until_asked(word_in(matches, "until"))?;
+    Some(Filter {
+        board,
+        cell,
+        replica,
+        since,
+        until,
+    })
+}
+
 fn open_in<'a>(matches: &ArgMatches<'a>) -> Option<Command<'a>>
     ensures { option_map meaning_of result ≡ open_of (rows_of (found_of matches.now)) }
 {
-    let until = time_in(matches, "until");
+    let until = until_asked(word_in(matches, "until"))?;
     let forcing = forcing_in(matches);
-    if let (Some(file), Some(world)) = (word_in(matches, "FILE"), word_in(matches, "WORLD")) {
-        Some(Command::Open {
-            until,
-            forcing,
-            file,
-            world,
-        })
-    } else {
-        None
-    }
+    let file = word_in(matches, "FILE")?;
+    let world = word_in(matches, "WORLD")?;
+    Some(Command::Open {
+        until,
+        forcing,
+        file,
+        world,
+    })
 }
 
 fn take_in<'a>(matches: &ArgMatches<'a>) -> Option<Command<'a>>
@@ -218,18 +235,13 @@ fn log_in<'a>(alloc: Global, matches: &ArgMatches<'a>) -> Result<Option<Command<
         option_map meaning_of a ≡ log_of (rows_of (found_of matches.now))) }
 {
     let length = length_in(matches);
-    let board = number_in(matches, "board");
-    let replica = number_in(matches, "replica");
-    let since = time_in(matches, "since");
-    let cell = cell_in(words_in(matches, "cell"));
-    if let (Some(cell), Some(files)) = (cell, words_in(matches, "FILES")) {
+    let filter = filter_in(matches, "replica");
+    let files = words_in(matches, "FILES");
+    if let (Some(filter), Some(files)) = (filter, files) {
         let files = Vec::from_slice(alloc, files)?;
         Ok(Some(Command::Log {
             length,
-            board,
-            cell,
-            replica,
-            since,
+            filter,
             files,
         }))
     } else {
@@ -259,6 +271,19 @@ fn show_in<'a>(alloc: Global, matches: &ArgMatches<'a>) -> Result<Option<Command
         Ok(Some(Command::Show { form, board, files }))
     } else {
         Ok(None)
+    }
+}
+
+fn page_in<'a>(alloc: Global, matches: &ArgMatches<'a>) -> Result<Option<Command<'a>>, AllocError>
+    ensures { IfOk result (λ a.
+        option_map meaning_of a ≡ page_of (rows_of (found_of matches.now))) }
+{
+    match words_in(matches, "FILES") {
+        Some(files) => {
+            let files = Vec::from_slice(alloc, files)?;
+            Ok(Some(Command::Page { files }))
+        }
+        None => Ok(None),
     }
 }
 
@@ -301,26 +326,31 @@ fn lint_in<'a>(alloc: Global, matches: &ArgMatches<'a>) -> Result<Option<Command
     }
 }
 
-// The edits that the words name otherwise than by the files of a pull, if stamps and a cell are such.
+fn compare_in<'a>(matches: &ArgMatches<'a>) -> Option<Command<'a>>
+    ensures { option_map meaning_of result ≡ compare_of (rows_of (found_of matches.now)) }
+{
+    let strictness = strictness_in(matches);
+    let mine = word_in(matches, "MINE")?;
+    let theirs = word_in(matches, "THEIRS")?;
+    Some(Command::Compare {
+        strictness,
+        mine,
+        theirs,
+    })
+}
+
+// The edits that the words name otherwise than by the files of a pull, if stamps and filters are such.
 fn choice_in(alloc: Global, matches: &ArgMatches<'_>) -> Result<Option<Choice>, AllocError>
     ensures { IfOk result (λ c.
         option_map meaning c ≡ chosen_of (rows_of (found_of matches.now))) }
 {
-    let board = number_in(matches, "board");
-    let by = number_in(matches, "by");
-    let since = time_in(matches, "since");
-    let until = time_in(matches, "until");
     let last = number_in(matches, "last");
     let stamps = stamps_asked(alloc, words_in(matches, "STAMPS"))?;
-    let cell = cell_in(words_in(matches, "cell"));
-    if let (Some(stamps), Some(cell)) = (stamps, cell) {
+    let filter = filter_in(matches, "by");
+    if let (Some(stamps), Some(filter)) = (stamps, filter) {
         Ok(Some(Choice {
             stamps,
-            board,
-            cell,
-            by,
-            since,
-            until,
+            filter,
             last,
         }))
     } else {
@@ -420,10 +450,14 @@ fn command_named<'a>(
         list_in(alloc, inner)
     } else if name == "show" {
         show_in(alloc, inner)
+    } else if name == "page" {
+        page_in(alloc, inner)
     } else if name == "play" {
         play_in(alloc, inner)
     } else if name == "lint" {
         lint_in(alloc, inner)
+    } else if name == "compare" {
+        Ok(compare_in(inner))
     } else if name == "undo" {
         undo_in(alloc, inner)
     } else if name == "set" {
@@ -448,11 +482,12 @@ fn no_command(alloc: Global, matches: &ArgMatches<'_>) -> Result<String, AllocEr
     ensures { IfOk result (λ text. 0 < length (string_bytes text)) }
 {
     match matches.subcommand_name() {
+        Some("open") => String::from_str(alloc, NO_MOMENT),
         Some("list") => String::from_str(alloc, NO_FILES),
         Some("show") => String::from_str(alloc, TWO_FORMS),
         Some("program") => String::from_str(alloc, NO_PROGRAM),
         Some("undo") => String::from_str(alloc, NO_CHOICE),
-        _ => String::from_str(alloc, NO_CELL),
+        _ => String::from_str(alloc, NO_FILTER),
     }
 }
 

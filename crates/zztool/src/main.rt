@@ -103,7 +103,9 @@ fn prepare(rt: &HostRuntime, words: &[String], host: &mut SystemHost) -> io::Res
             Command::Log { .. }
             | Command::List { .. }
             | Command::Show { .. }
+            | Command::Page { .. }
             | Command::Lint { .. }
+            | Command::Compare { .. }
             | Command::Program { .. }
             | Command::Programs { .. },
         ) => Ok(()),

@@ -1,7 +1,6 @@
 use Rattle.zed_driver.specs.Hosts.{hosts}
-use Rattle.zed_tool.specs.Commands.{filter_of}
 use Rattle.zed_tool.proofs.Driven.{acted, told_tells}
-use Rattle.zed_tool.proofs.Lacking.{every_not, lints_not, lists_not, logs_not, prints_not, shows_not}
+use Rattle.zed_tool.proofs.Lacking.{every_not, lints_not, lists_not, logs_not, pages_not, prints_not, shows_not}
 use Rattle.zed_tool.proofs.program.act.Goals as goal
 
 pub returns-in-Open-clause-acted : goal.returns-in-Open-clause-acted
@@ -18,12 +17,12 @@ returns-in-Take-clause-acted g c =
 
 pub tell-requires : goal.tell-requires
 tell-requires g c =
-    logs_not c.length_of-length.result (filter_of c.in-Log.board c.in-Log.cell c.in-Log.replica c.in-Log.since)
+    logs_not c.length_of.result c.filter_of.result
 
 pub returns-in-Log-clause-acted : goal.returns-in-Log-clause-acted
 returns-in-Log-clause-acted g c =
     let is = c.tell.ensures in
-    let so = rw (c.length_of-length.ensures, c.as_slice.ensures.value) at is in
+    let so = rw (c.length_of.ensures, c.filter_of.ensures, c.as_slice.ensures.value) at is in
     rw c.in-Log.is (acted _ _ _ _ _ _ so)
 
 pub tell-requires-in-List : goal.tell-requires-in-List
@@ -43,6 +42,15 @@ returns-in-Show-clause-acted g c =
     let is = c.tell-in-Show.ensures in
     let so = rw (c.form_of-form.ensures, c.as_slice-in-Show.ensures.value) at is in
     rw c.in-Show.is (acted _ _ _ _ _ _ so)
+
+pub tell-requires-in-Page : goal.tell-requires-in-Page
+tell-requires-in-Page g c = pages_not
+
+pub returns-in-Page-clause-acted : goal.returns-in-Page-clause-acted
+returns-in-Page-clause-acted g c =
+    let is = c.tell-in-Page.ensures in
+    let so = rw (c.as_slice-in-Page.ensures.value) at is in
+    rw c.in-Page.is (acted _ _ _ _ _ _ so)
 
 pub tell-requires-in-Lint : goal.tell-requires-in-Lint
 tell-requires-in-Lint g c = lints_not c.strictness_of-strictness.result
@@ -71,10 +79,16 @@ returns-in-Programs-clause-acted g c =
     let so = rw (c.as_slice-in-Programs.ensures.value) at is in
     rw c.in-Programs.is (acted _ _ _ _ _ _ so)
 
+pub returns-in-Compare-clause-acted : goal.returns-in-Compare-clause-acted
+returns-in-Compare-clause-acted g c =
+    let is = c.compare_files.ensures in
+    let so = rw (c.compare_strictness_of-strictness.ensures) at is in
+    rw c.in-Compare.is (acted _ _ _ _ _ _ so)
+
 pub returns-in-Undo-clause-acted : goal.returns-in-Undo-clause-acted
 returns-in-Undo-clause-acted g c =
     let is = c.undo.ensures in
-    let so = rw (c.trial_of.ensures, c.others_of.ensures, c.as_slice-stamps.ensures.value) at is in
+    let so = rw (c.trial_of.ensures, c.others_of.ensures, c.filter_of-filter.ensures, c.as_slice-stamps.ensures.value) at is in
     rw c.in-Undo.is (acted _ _ _ _ _ _ so)
 
 pub returns-in-UndoPull-clause-acted : goal.returns-in-UndoPull-clause-acted
